@@ -1,0 +1,10 @@
+pub mod Any
+pub mod Computed
+pub mod Counting
+pub mod Digits
+pub mod Fields
+pub mod Generation
+pub mod Lengths
+pub mod Linear
+pub mod Places
+pub mod Space

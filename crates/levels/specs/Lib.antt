@@ -1,0 +1,6 @@
+pub mod Alias
+pub mod Arithmetic
+pub mod Basis
+pub mod Generated
+pub mod Space
+pub mod Words
