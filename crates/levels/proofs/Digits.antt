@@ -13,7 +13,7 @@ use Rattle.std.proofs.shelf.Bits.{pow-pos, pow-add, shr-shr, shr-below, shr-hig
 use Rattle.std.proofs.shelf.Ways.{decides-by-and, decides-ltb}
 use Rattle.std.proofs.shelf.Tests.{and-parts, and-from, lt-ltb, le-leb, leb-true, ltb-true}
 use Rattle.levels.specs.Arithmetic.{Arithmetic, Lawful}
-use Rattle.levels.specs.Words.{digits, code, all-levels}
+use Rattle.levels.specs.Words.{digits, code, all-levels, legal}
 use Rattle.levels.specs.Space.{Word}
 
 module _ (A : Arithmetic) where
@@ -89,6 +89,10 @@ module _ (A : Arithmetic) where
       and-from (leb 1 n && leb n 32) (ltb w (2 ^ (A .bits * n)) && all-levels A (digits A n w))
       (and-from (leb 1 n) (leb n 32) (le-leb 1 n (h .low)) (le-leb n 32 (h .high)))
       (and-from (ltb w (2 ^ (A .bits * n))) (all-levels A (digits A n w)) (lt-ltb w (2 ^ (A .bits * n)) (h .below)) (levels-decide (digits A n w) .1 (h .levels)))
+
+  -- with 1 to 32 factors, the last two decide
+  pub legal-test : (n w : ℕ) → 1 ≤ n → n ≤ 32 → legal A n w ≡ (ltb w (2 ^ (A .bits * n)) && all-levels A (digits A n w))
+  legal-test n w low high = rw (le-leb 1 n low, le-leb n 32 high)
 
   -- two legal codes with the same digits are the same code
   pub same-word : (n v w : ℕ) → Word A n v → Word A n w → digits A n v ≡ digits A n w → v ≡ w

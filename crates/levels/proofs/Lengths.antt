@@ -1,15 +1,16 @@
 -- Lengths of words: how many digits are not 0; and the sum of codes of 64 bits.
 use mathlib.Core.Path.{_≡_, refl, sym, ap, _∙_}
-use mathlib.Core.Bool.{cond}
+use mathlib.Core.Bool.{cond, _&&_}
 use mathlib.Core.List.{List, [], _∷_, _++_}
 use Prim.Native.Nat.{ℕ, zero, suc, _+_, _-_, _*_, _/_, _%_, _^_, _<_, _≤_}
 use native.Mathlib.Nat.{mul-zero, zero-add, suc-add, zero-mul, le-trans, le-of-eq}
 use native.Mathlib.Omega.{arith}
-use lib.Dec.{eqb}
+use lib.Dec.{eqb, ltb}
 use lib.ListN.{length, replicate}
+use Rattle.std.proofs.shelf.Tests.{lt-ltb}
 use Rattle.std.proofs.shelf.Ways.{tells}
 use Rattle.levels.specs.Arithmetic.{Arithmetic, Lawful}
-use Rattle.levels.specs.Words.{digits, code, zip-with, word-sum, nonzero, word-length, code-sum}
+use Rattle.levels.specs.Words.{digits, code, all-levels, zip-with, word-sum, nonzero, word-length, code-sum}
 use Rattle.levels.specs.Space.{Word}
 use Rattle.levels.proofs.Digits.{digits-length, rest-below, code-digits, word-legal}
 use Rattle.levels.proofs.Space.{zero-digits, zero-level, sum-is}
@@ -19,6 +20,12 @@ pub nonzero-zeros : (xs : List ℕ) (k : ℕ) → nonzero (xs ++ replicate k 0) 
 nonzero-zeros [] zero = refl
 nonzero-zeros [] (suc k) = zero-add (nonzero (replicate k 0)) ∙ nonzero-zeros [] k
 nonzero-zeros (x ∷ xs) k = ap (λ m. cond (eqb x 0) 0 1 + m) (nonzero-zeros xs k)
+
+-- zeros at the end of a list are levels
+pub levels-zeros : (A : Arithmetic) → Lawful A → (xs : List ℕ) (k : ℕ) → all-levels A (xs ++ replicate k 0) ≡ all-levels A xs
+levels-zeros A L [] zero = refl
+levels-zeros A L [] (suc k) = rw (lt-ltb 0 (A .s) (zero-level A L)) (levels-zeros A L [] k)
+levels-zeros A L (x ∷ xs) k = ap (λ t. ltb x (A .s) && t) (levels-zeros A L xs k)
 
 -- at most all digits count
 pub nonzero-most : (xs : List ℕ) → nonzero xs ≤ length xs

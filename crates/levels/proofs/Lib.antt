@@ -2,9 +2,12 @@ pub mod Any
 pub mod Computed
 pub mod Counting
 pub mod Digits
+pub mod Examples
 pub mod Fields
 pub mod Generation
+pub mod Lawful
 pub mod Lengths
 pub mod Linear
+pub mod Masks
 pub mod Places
 pub mod Space

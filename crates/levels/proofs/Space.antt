@@ -11,7 +11,7 @@ use lib.ListN.{length, replicate}
 use Rattle.std.specs.shelf.Lists.{All}
 use Rattle.std.proofs.shelf.Lists.{length-map}
 use Rattle.std.proofs.shelf.Bits.{pow-pos}
-use Rattle.std.proofs.shelf.Tests.{and-from, and-left, and-right, cases-bool, cond-true, cond-false, lt-ltb}
+use Rattle.std.proofs.shelf.Tests.{and-from, and-left, and-right, cases-bool, cond-true, cond-false, lt-ltb, le-ltb}
 use Rattle.levels.specs.Arithmetic.{Arithmetic, Lawful}
 use Rattle.levels.specs.Words.{digits, code, legal, zip-with, word-sum, word-multiple}
 use Rattle.levels.specs.Space.{Word, Vector-space}
@@ -234,7 +234,7 @@ module _ (A : Arithmetic) (L : Lawful A) where
   multiple-zero n a ha = cc (multiple-is n 0 a zero-level ha, map-zero (digits A n a) (word-levels n a ha), zeros-of n a, zero-code n)
 
   -- 1 times a word is the word
-  multiple-one : (n a : ℕ) → Word A n a → word-multiple A n 1 a ≡ a
+  pub multiple-one : (n a : ℕ) → Word A n a → word-multiple A n 1 a ≡ a
   multiple-one n a ha = cc (multiple-is n 1 a (L .field .two-levels) ha, map-one (digits A n a) (word-levels n a ha), word-code n a ha)
 
   -- two products after one another are one product
@@ -258,6 +258,10 @@ module _ (A : Arithmetic) (L : Lawful A) where
         multiple-digits n d a ld ha,
         sum-is n (word-multiple A n c a) (word-multiple A n d a) (multiple-is-word n c a lc ha) (multiple-is-word n d a ld ha),
       )
+
+  -- twice a word is its sum with itself
+  pub multiple-double : (n a : ℕ) → Word A n a → word-multiple A n (A .plus 1 1) a ≡ word-sum A n a a
+  multiple-double n a ha = let one = L .field .two-levels in cc (multiple-plus n 1 1 a one one ha, multiple-one n a ha)
 
   -- a level times a sum of two words
   multiple-sum : (n c a b : ℕ) → c < A .s → Word A n a → Word A n b →
@@ -301,8 +305,20 @@ module _ (A : Arithmetic) where
       cond-false (legal A n a && legal A n b) (code A (zip-with (A .plus) (digits A n a) (digits A n b))) 0
       (and-left (legal A n a) (legal A n b) (no-words n out a))
 
-  -- and each multiple
+  -- an illegal word has code 0 as each multiple
+  pub illegal-multiple : (n c w : ℕ) → legal A n w ≡ false → word-multiple A n c w ≡ 0
+  illegal-multiple n c w f =
+      cond-false (ltb c (A .s) && legal A n w) (code A (map (A .times c) (digits A n w))) 0 (and-right (ltb c (A .s)) (legal A n w) f)
+
+  -- and so has each word times a number that is no level
+  pub no-level-multiple : (n c w : ℕ) → A .s ≤ c → word-multiple A n c w ≡ 0
+  no-level-multiple n c w g =
+      cond-false (ltb c (A .s) && legal A n w) (code A (map (A .times c) (digits A n w))) 0 (and-left (ltb c (A .s)) (legal A n w) (le-ltb c (A .s) g))
+
+  -- and each multiple, unless the number of factors is from 1 to 32
   pub no-multiple : (n : ℕ) → ((1 ≤ n) × (n ≤ 32) → ⊥) → (c w : ℕ) → word-multiple A n c w ≡ 0
-  no-multiple n out c w =
-      cond-false (ltb c (A .s) && legal A n w) (code A (map (A .times c) (digits A n w))) 0
-      (and-right (ltb c (A .s)) (legal A n w) (no-words n out w))
+  no-multiple n out c w = illegal-multiple n c w (no-words n out w)
+
+-- 0 times a code is 0, legal or not
+pub zero-times : (A : Arithmetic) → Lawful A → (n w : ℕ) → word-multiple A n 0 w ≡ 0
+zero-times A L n w = elim (cases-bool (legal A n w)) [ inl h ↦ multiple-zero A L n w h | inr f ↦ illegal-multiple A n 0 w f ]

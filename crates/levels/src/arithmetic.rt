@@ -2,7 +2,7 @@
 ghost use mathlib.Core.Path.{_≡_};
 ghost use Prim.Native.Nat.{ℕ, _≤_};
 ghost use Rattle.levels.specs.Arithmetic.{Arithmetic, Lawful};
-ghost use Rattle.levels.specs.Words.{legal};
+ghost use Rattle.levels.specs.Words.{legal, code-sum, word-length, word-multiple, word-sum};
 use crate::number::Number;
 
 // Levels of a factor: how many there are, how words of them are packed into codes, and how words are added.
@@ -32,20 +32,25 @@ pub trait Levels {
     law limit: { Most·Number .value ≡ model .limit };
 
     // Whether a code is legal for n factors.
-    fn legal(n: u8, word: u64) -> bool;
+    fn legal(n: u8, word: u64) -> bool
+        ensures { λ r. ⌜ r ≡ legal model n word ⌝ };
 
     // The sum of two codes, digit by digit, whatever their digits.
-    fn add(a: u64, b: u64) -> u64;
+    fn add(a: u64, b: u64) -> u64
+        ensures { λ r. ⌜ r ≡ code-sum model a b ⌝ };
 
     // The product of a level and a word of n factors; code 0 where the level is not below s or the word is illegal.
-    fn product(n: u8, level: u8, word: u64) -> u64;
+    fn product(n: u8, level: u8, word: u64) -> u64
+        ensures { λ r. ⌜ r ≡ word-multiple model n level word ⌝ };
 
     // How many digits of a code are not 0.
     fn length(word: u64) -> u8
-        ensures { λ r. ⌜ r ≤ 64 ⌝ };
+        ensures { λ r. ⌜ r ≡ word-length model word ⌝ };
 
     // The sum of two words of n factors; code 0 where one is illegal.
-    fn sum(n: u8, a: u64, b: u64) -> u64 {
+    fn sum(n: u8, a: u64, b: u64) -> u64
+        ensures { λ r. ⌜ r ≡ word-sum model n a b ⌝ }
+    {
         if Self::legal(n, a) && Self::legal(n, b) {
             Self::add(a, b)
         } else {

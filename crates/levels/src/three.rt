@@ -1,12 +1,15 @@
 // Three levels: two bits a factor, and the sum is modulo 3.
+ghost use mathlib.Core.Path.{_≡_};
+ghost use lib.Bits.{bitAnd};
 ghost use Rattle.levels.specs.Arithmetic.{three};
+ghost use Rattle.levels.specs.Words.{code-sum};
 use crate::arithmetic::Levels;
 use crate::number::Exactly;
 use crate::number::ExactlyNumber;
 
 // the low bit of each digit
 const LOW: u64 = 0x5555_5555_5555_5555;
-// every second digit, in four bits each, and the number 1 in four bits each
+// the digits at even places, in four bits each, and the number 1 in four bits each
 const EVEN: u64 = 0x3333_3333_3333_3333;
 
 const ONES: u64 = 0x1111_1111_1111_1111;
@@ -34,7 +37,7 @@ pub impl Levels for ThreeLevels as ThreeLevelsArithmetic {
     }
 
     fn add(a: u64, b: u64) -> u64 {
-        half_sum(a & EVEN, b & EVEN) | half_sum((a >> 2) & EVEN, (b >> 2) & EVEN) << 2
+        even_sum(a, b) + (even_sum(a >> 2, b >> 2) << 2)
     }
 
     fn product(n: u8, level: u8, word: u64) -> u64 {
@@ -53,9 +56,11 @@ pub impl Levels for ThreeLevels as ThreeLevelsArithmetic {
     }
 }
 
-// The sum of digits that have four bits each: less 3 where it reaches 3.
-fn half_sum(a: u64, b: u64) -> u64 {
-    let whole = a.wrapping_add(b);
-    let reached = (whole.wrapping_add(ONES) >> 2) & ONES;
-    whole.wrapping_sub(reached.wrapping_mul(3))
+// The sum of the digits at even places alone, which have four bits each: less 3 where it reaches 3.
+fn even_sum(a: u64, b: u64) -> u64
+    ensures { λ r. ⌜ r ≡ code-sum three (bitAnd a 0x3333_3333_3333_3333) (bitAnd b 0x3333_3333_3333_3333) ⌝ }
+{
+    let whole = (a & EVEN) + (b & EVEN);
+    let reached = ((whole + ONES) >> 2) & ONES;
+    whole - reached * 3
 }

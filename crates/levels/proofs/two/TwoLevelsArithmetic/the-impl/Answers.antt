@@ -1,15 +1,6 @@
-use mathlib.Core.Path.{refl}
-use lib.Dec.{lit≤}
-use Rattle.levels.specs.Arithmetic.{plus-modulo}
-use Rattle.levels.proofs.Computed.{within}
-use Rattle.levels.proofs.Fields.{modulo-field}
+use Rattle.levels.proofs.Lawful.{lawful-two}
 use Rattle.levels.proofs.two.TwoLevelsArithmetic.the-impl.Needs as need
 
+-- the model obeys the laws
 pub lawful-law : need.lawful-law
-lawful-law = record {
-  field = modulo-field 2 refl;
-  width = refl;
-  fits = lit≤ tt;
-  few = lit≤ tt;
-  plus-fits = within 2 2 (plus-modulo 2) refl;
-}
+lawful-law = lawful-two
