@@ -48,7 +48,7 @@ module _ (S : Space) (all : List ℕ → List ℕ) (all-nil : all [] ≡ 0 ∷ [
   gen-or-not ws w = elim (in-or-not w (all ws)) [ inl p ↦ inl (all-gen ws w p) | inr n ↦ inr (λ g. n (gen-all ws w g)) ]
 
   -- an equal first part leaves equal second parts
-  cancel : (p a b : ℕ) → Is S p → Is S a → Is S b → S .add p a ≡ S .add p b → a ≡ b
+  pub cancel : (p a b : ℕ) → Is S p → Is S a → Is S b → S .add p a ≡ S .add p b → a ≡ b
   cancel p a b wp wa wb e =
       let o = S .opposite p wp in
       cc (
@@ -61,7 +61,7 @@ module _ (S : Space) (all : List ℕ → List ℕ) (all-nil : all [] ≡ 0 ∷ [
       )
 
   -- two different multiples of w that differ by what ws generates: ws generates w
-  clash : (ws : List ℕ) (w c d a b : ℕ) → Is S w → c < S .s → d < S .s → Gen S ws a → Gen S ws b → S .add (S .mul c w) a ≡ S .add (S .mul d w) b → (c ≡ d → ⊥) → Gen S ws w
+  pub clash : (ws : List ℕ) (w c d a b : ℕ) → Is S w → c < S .s → d < S .s → Gen S ws a → Gen S ws b → S .add (S .mul c w) a ≡ S .add (S .mul d w) b → (c ≡ d → ⊥) → Gen S ws w
   clash ws w c d a b ww lc ld ga gb e ne =
       let F = S .levels in
       let o = F .opposite d ld in

@@ -1,6 +1,6 @@
 -- The words that a list of words generates, and independent lists.
 use mathlib.Core.Path.{_≡_}
-use mathlib.Core.Bool.{Bool, cond}
+use mathlib.Core.Bool.{Bool, true, false, cond}
 use mathlib.Core.List.{List, [], _∷_, _++_, map}
 use Prim.Native.Nat.{ℕ, zero, suc, _<_}
 use lib.Dec.{eqb, ltb}
@@ -50,6 +50,15 @@ abbrev pub ascending : List ℕ → List ℕ
 ascending [] = []
 ascending (x ∷ xs) = insert x (ascending xs)
 
+-- each number is below the next
+abbrev pub Ascends : List ℕ → Type 0
+Ascends xs = (i : ℕ) → suc i < length xs → getD xs i 0 < getD xs (suc i) 0
+
 -- the words that a list generates, each once, in ascending code
 abbrev pub generated : Arithmetic → ℕ → List ℕ → List ℕ
 generated A n ws = ascending (combinations A n ws)
+
+-- a number is in a list
+abbrev pub holds : List ℕ → ℕ → Bool
+holds [] w = false
+holds (x ∷ xs) w = cond (eqb x w) true (holds xs w)

@@ -1,13 +1,19 @@
 -- Legal words of n factors form a vector space over the levels.
 use mathlib.Core.Path.{_≡_}
 use mathlib.Core.Bool.{true}
+use mathlib.Core.List.{List}
 use Prim.Native.Nat.{ℕ, _<_}
+use lib.ListN.{length, getD}
 use Rattle.levels.specs.Arithmetic.{Arithmetic}
 use Rattle.levels.specs.Words.{legal, word-sum, word-multiple}
 
 -- a word of n factors: a legal code
 abbrev pub Word : Arithmetic → ℕ → ℕ → Type 0
 Word A n w = legal A n w ≡ true
+
+-- every code of a list is a word
+abbrev pub All-words : Arithmetic → ℕ → List ℕ → Type 0
+All-words A n ws = (i : ℕ) → i < length ws → Word A n (getD ws i 0)
 
 pub record Vector-space (A : Arithmetic) (n : ℕ) : Type 0 where
   pub zero-word : Word A n 0

@@ -2,6 +2,7 @@
 pub mod arithmetic;
 pub mod basis;
 pub mod number;
+pub mod reduction;
 pub mod span;
 pub mod three;
 pub mod two;
