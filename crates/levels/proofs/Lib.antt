@@ -18,4 +18,5 @@ pub mod Places
 pub mod Reduced
 pub mod Sets
 pub mod Space
+pub mod Theory
 pub mod Units

@@ -4,4 +4,5 @@ pub mod Basis
 pub mod Generated
 pub mod Rows
 pub mod Space
+pub mod Theorems
 pub mod Words

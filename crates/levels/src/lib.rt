@@ -4,6 +4,7 @@ pub mod basis;
 pub mod number;
 pub mod reduction;
 pub mod span;
+pub mod theorems;
 pub mod three;
 pub mod two;
 

@@ -26,11 +26,11 @@ pub impl Levels for ThreeLevels as ThreeLevelsArithmetic {
 
     type Most = Exactly<10>;
 
-    const LEVELS: Exactly<3> = Exactly;
+    const LEVELS: Self::Count = Exactly;
 
-    const BITS: Exactly<2> = Exactly;
+    const BITS: Self::Width = Exactly;
 
-    const LIMIT: Exactly<10> = Exactly;
+    const LIMIT: Self::Most = Exactly;
 
     fn legal(n: u8, word: u64) -> bool {
         1 <= n && n <= 32 && (n == 32 || word < 1u64 << (2 * n)) && word & (word >> 1) & LOW == 0

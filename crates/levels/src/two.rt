@@ -16,11 +16,11 @@ pub impl Levels for TwoLevels as TwoLevelsArithmetic {
 
     type Most = Exactly<16>;
 
-    const LEVELS: Exactly<2> = Exactly;
+    const LEVELS: Self::Count = Exactly;
 
-    const BITS: Exactly<1> = Exactly;
+    const BITS: Self::Width = Exactly;
 
-    const LIMIT: Exactly<16> = Exactly;
+    const LIMIT: Self::Most = Exactly;
 
     fn legal(n: u8, word: u64) -> bool {
         1 <= n && n <= 32 && word < 1u64 << n

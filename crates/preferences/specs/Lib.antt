@@ -1,0 +1,3 @@
+pub mod Built
+pub mod Relation
+pub mod Verdicts
