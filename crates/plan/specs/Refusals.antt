@@ -3,6 +3,7 @@ use Prim.Native.Nat.{ℕ}
 use Rattle.plan.specs.declared.refusal.Refusal.{Refusal}
 use Rattle.plan.specs.declared.refusal.Refusal.the-variants.{Factors, Illegal, Generated, Limit, Place, Memory, Cut, Mark, Version, Levels, Surplus, Last}
 
+-- refusals count from 1
 abbrev pub number-of : Refusal → ℕ
 number-of Factors = 1
 number-of Illegal = 2

@@ -1,14 +1,25 @@
 // A trial plan: its words, the calls that change it, and what is read off once it is settled.
-pub mod file;
+mod admission;
+pub mod answers;
+mod buffer;
+pub mod calls;
+pub mod content;
+mod held;
+pub mod list;
+mod memory;
+pub mod open;
 pub mod page;
-pub mod plan;
+pub mod questions;
+mod reading;
 pub mod refusal;
 pub mod settled;
+pub mod side;
 pub mod trial;
 pub mod words;
+mod writing;
 
-pub use plan::OpenPlan;
+pub use open::OpenPlan;
 pub use refusal::Refusal;
 pub use settled::SettledPlan;
+pub use side::Side;
 pub use trial::trial_page;
-pub use words::Side;

@@ -1,7 +1,11 @@
 // The trial page.
 ghost use Prim.Native.Nat.{_≤_};
+use crate::questions::clear_pairs;
 use crate::refusal::Refusal;
 use crate::settled::SettledPlan;
+use aliasing::pattern::LENGTHS;
+use aliasing::pattern::pattern;
+use choice::choose;
 use levels::Levels;
 use levels::number::Number;
 use preferences::LeastAberration;
@@ -107,13 +111,19 @@ impl<L: Levels> SettledPlan<L> {
         let mut page = Page::new();
         self.print_plan(&mut page);
         self.print_lengths(&mut page);
-        let defining = self.defining_generators::<Shortest>(&Shortest);
-        page.words::<L>(b"defining", self.factors, defining.words());
-        let blocks = self.block_generators::<LeastAberration>(&LeastAberration);
-        page.words::<L>(b"blocks", self.factors, blocks.words());
+        let n = self.held.factors;
+        let defining = choose::<L, Shortest>(&Shortest, n, &[], self.held.defining.as_slice());
+        page.words::<L>(b"defining", n, defining.words());
+        let blocks = choose::<L, LeastAberration>(
+            &LeastAberration,
+            n,
+            self.held.defining.as_slice(),
+            self.held.block.as_slice(),
+        );
+        page.words::<L>(b"blocks", n, blocks.words());
         if L::LEVELS.get() == 2 {
             page.text(b"clear");
-            page.field(self.clear_pairs());
+            page.field(clear_pairs::<L>(n, self.held.defining.as_slice()));
             page.byte(b'\n');
         }
         page
@@ -123,7 +133,7 @@ impl<L: Levels> SettledPlan<L> {
         let (defining, block) = self.counts();
         page.text(b"plan");
         page.field(L::LEVELS.get() as u32);
-        page.field(self.factors as u32);
+        page.field(self.held.factors as u32);
         page.field(defining as u32);
         page.field(block as u32);
         page.byte(b'\n');
@@ -139,10 +149,10 @@ impl<L: Levels> SettledPlan<L> {
             None => page.text(b" none"),
         }
         page.text(b"\npattern");
-        let lengths = self.lengths();
-        for i in 1..33usize {
-            if i <= self.factors as usize {
-                page.field(lengths[i]);
+        let counts = pattern::<L>(self.held.factors, self.held.defining.as_slice());
+        for i in 0..LENGTHS {
+            if i < self.held.factors as usize {
+                page.field(counts[i]);
             }
         }
         page.byte(b'\n');

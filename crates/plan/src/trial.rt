@@ -1,5 +1,5 @@
 // The trial page of a plan file.
-use crate::plan::OpenPlan;
+use crate::open::OpenPlan;
 use crate::refusal::Refusal;
 use levels::Levels;
 use levels::ThreeLevels;

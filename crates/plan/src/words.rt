@@ -1,47 +1,14 @@
-// The words of a plan: n factors, and two lists of at most 16 words together.
-ghost use Prim.Native.Nat.{_+_, _≤_};
+// A list of at most 16 words, none of them code 0.
+ghost use Prim.Native.Nat.{ℕ, _<_, _≤_};
+ghost use lib.ListN.{getD};
 
 // How many words a plan holds at most, whatever its levels.
 pub const MOST: usize = 16;
 
-// The two lists of a plan.
-#[derive(Clone, Copy, PartialEq, Eq, Debug)]
-pub enum Side {
-    Defining,
-    Block,
-}
-
-// A list of at most 16 words.
 #[derive(Clone, Copy)]
 pub struct Words {
-    words: [u64; MOST],
-    len: usize,
+    pub(crate) words: [u64; MOST],
+    pub(crate) len: usize,
     ghost few: { len ≤ 16 },
-}
-
-impl Words {
-    pub fn new() -> Words {
-        Words {
-            words: [0; MOST],
-            len: 0,
-        }
-    }
-
-    pub fn as_slice(&self) -> &[u64] {
-        &self.words[0..self.len]
-    }
-
-    pub fn len(&self) -> usize
-        ensures { λ r. ⌜ r ≤ 16 ⌝ }
-    {
-        self.len
-    }
-
-    // One word more at the end; nothing where the list is full.
-    pub fn push(&mut self, word: u64) {
-        if self.len < MOST {
-            self.words[self.len] = word;
-            self.len += 1;
-        }
-    }
+    ghost nonzero: { (i : ℕ) → i < len → 0 < getD words i 0 },
 }

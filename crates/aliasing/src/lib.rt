@@ -1,0 +1,2 @@
+// What is read off the words of a plan: pattern, alias sets, clear pairs, runs and blocks.
+pub mod pattern;
