@@ -1,2 +1,3 @@
 // What is read off the words of a plan: pattern, alias sets, clear pairs, runs and blocks.
 pub mod pattern;
+pub mod runs;

@@ -1,3 +1,4 @@
+pub mod Answers
 pub mod Content
 pub mod File
 pub mod Held

@@ -3,6 +3,7 @@ mod admission;
 pub mod answers;
 mod buffer;
 pub mod calls;
+pub mod choices;
 pub mod content;
 mod held;
 pub mod list;
