@@ -1,8 +1,14 @@
 pub mod Chosen
 pub mod Counts
+pub mod Crowds
 pub mod Evens
 pub mod Exact
+pub mod Floors
+pub mod Heights
+pub mod Joins
+pub mod Ladders
 pub mod Listed
 pub mod Parity
 pub mod Placed
 pub mod Resolved
+pub mod Shorts

@@ -12,9 +12,10 @@ use Rattle.levels.specs.Generated.{generated}
 use Rattle.levels.specs.Alias.{alias-set}
 use Rattle.preferences.specs.Relation.{Relation, all-legal}
 use Rattle.choice.specs.Choice.{generators}
+use Rattle.aliasing.specs.Clear.{ones-in}
 use Rattle.aliasing.specs.Runs.{block-number, runs-upto}
 use Rattle.plan.specs.declared.refusal.Refusal.{Refusal}
-use Rattle.plan.specs.declared.refusal.Refusal.the-variants.{Illegal, Limit, Last}
+use Rattle.plan.specs.declared.refusal.Refusal.the-variants.{Illegal, Limit, Last, Memory}
 use Rattle.plan.specs.declared.side.Side.{Side}
 use Rattle.plan.specs.declared.side.Side.the-variants.{Defining, Block}
 use Rattle.plan.specs.Content.{Content}
@@ -55,3 +56,7 @@ block-of run ws p =
     cond (legal two (p .factors) run)
     (cond (leb (length ws) (two .limit)) (cond (all-legal two (p .factors) ws) (Ok (block-number (p .factors) run ws)) (Err Illegal)) (Err Limit))
     (Err Illegal)
+
+-- with two levels, what is returned where the bytes of clear pairs are written: how many ones there are
+abbrev pub wrote-ones : List ℕ → List ℕ → Result ℕ Refusal
+wrote-ones bytes memory = cond (ltb (length memory) (length bytes)) (Err Memory) (Ok (ones-in bytes))

@@ -2,7 +2,7 @@
 ghost use mathlib.Core.Path.{_≡_};
 ghost use lib.ListN.{length};
 ghost use Rattle.std.specs.declared.result.Result.the-variants.{Ok};
-ghost use Rattle.plan.specs.Content.{Kept, word-at};
+ghost use Rattle.plan.specs.Content.{Kept, side-of, word-at};
 ghost use Rattle.plan.specs.File.{file-of, read-file};
 ghost use Rattle.plan.specs.Held.{content-of};
 ghost use Rattle.plan.specs.Memory.{holding, wrote};
@@ -23,6 +23,20 @@ impl<L: Levels> SettledPlan<L> {
             levels: PhantomData,
             held: self.held,
         }
+    }
+
+    // The number of factors.
+    pub fn factors(&self) -> u8
+        ensures { λ r. ⌜ r ≡ content-of (now (self .entry) .held) .factors ⌝ }
+    {
+        self.held.factors
+    }
+
+    // The words of one list.
+    pub fn list(&self, side: Side) -> &[u64]
+        ensures { λ r. ⌜ now r ≡ side-of side (content-of (now (self .entry) .held)) ⌝ }
+    {
+        self.held.list(side).as_slice()
     }
 
     // How many words each list has, the defining one first.

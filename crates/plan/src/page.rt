@@ -1,8 +1,8 @@
 // The trial page.
 ghost use Prim.Native.Nat.{_≤_};
-use crate::questions::clear_pairs;
 use crate::refusal::Refusal;
 use crate::settled::SettledPlan;
+use aliasing::clear::clear;
 use aliasing::pattern::LENGTHS;
 use aliasing::pattern::pattern;
 use choice::choose;
@@ -123,7 +123,7 @@ impl<L: Levels> SettledPlan<L> {
         page.words::<L>(b"blocks", n, blocks.words());
         if L::LEVELS.get() == 2 {
             page.text(b"clear");
-            page.field(clear_pairs::<L>(n, self.held.defining.as_slice()));
+            page.field((clear(n, self.held.defining.as_slice()).ones() % 1000) as u32);
             page.byte(b'\n');
         }
         page

@@ -1,15 +1,17 @@
 // What is read off the words of a settled plan.
 ghost use mathlib.Core.Path.{_≡_};
 ghost use Rattle.levels.specs.Generated.{generated};
+ghost use Rattle.aliasing.specs.Clear.{clear-bytes};
 ghost use Rattle.aliasing.specs.Pattern.{pattern, resolution};
-ghost use Rattle.plan.specs.Answers.{block-of, defined, run-of};
+ghost use Rattle.plan.specs.Answers.{alias-member, block-of, defined, run-of, wrote-ones};
 ghost use Rattle.plan.specs.Held.{content-of};
 ghost use Rattle.plan.specs.Memory.{holding, wrote};
 use crate::memory::store;
 use crate::refusal::Refusal;
 use crate::settled::SettledPlan;
+use aliasing::clear;
+use aliasing::members;
 use aliasing::runs;
-use levels::Basis;
 use levels::Levels;
 use levels::TwoLevels;
 use levels::TwoLevelsArithmetic;
@@ -34,9 +36,34 @@ impl<L: Levels> SettledPlan<L> {
     {
         aliasing::pattern::resolution::<L>(self.held.factors, self.held.defining.as_slice())
     }
+
+    // Alias member m, from 0, of a word over the defining words, in ascending code.
+    pub fn alias_member(&self, word: u64, m: u64) -> Result<u64, Refusal>
+        ensures { λ r. ⌜ r ≡ alias-member (L·Levels .model) word m (content-of (now (self .entry) .held)) ⌝ }
+    {
+        let n = self.held.factors;
+        if !L::legal(n, word) {
+            return Err(Refusal::Illegal);
+        }
+        match members::alias_member::<L>(n, self.held.defining.as_slice(), word, m) {
+            Some(code) => Ok(code),
+            None => Err(Refusal::Last),
+        }
+    }
 }
 
 impl SettledPlan<TwoLevels> {
+    // Writes one byte for each pair of factors, 1 if it is clear, and tells how many are.
+    pub fn clear(&self, memory: &mut [u8]) -> Result<usize, Refusal>
+        ensures stored { λ _. ⌜ now (memory .exit) ≡ holding (clear-bytes (content-of (now (self .entry) .held) .factors) (content-of (now (self .entry) .held) .defining)) (now (memory .entry)) ⌝ }
+        ensures count { λ r. ⌜ r ≡ wrote-ones (clear-bytes (content-of (now (self .entry) .held) .factors) (content-of (now (self .entry) .held) .defining)) (now (memory .entry)) ⌝ }
+    {
+        let pairs = clear::clear(self.held.factors, self.held.defining.as_slice());
+        let ones = pairs.ones();
+        store(pairs.bytes(), memory)?;
+        Ok(ones)
+    }
+
     // Run m, from 0, in ascending code.
     pub fn run(&self, m: u64) -> Result<u64, Refusal>
         ensures { λ r. ⌜ r ≡ run-of m (content-of (now (self .entry) .held)) ⌝ }
@@ -63,47 +90,4 @@ impl SettledPlan<TwoLevels> {
         }
         Ok(runs::block_number(run, words))
     }
-}
-
-// With two levels, how many pairs of factors are clear: their alias set over the defining words has no word of one
-// letter and no other of two.
-pub(crate) fn clear_pairs<L: Levels>(n: u8, words: &[u64]) -> u32 {
-    let mut basis = Basis::new();
-    basis.admit_all::<L>(n, words);
-    let mut clear = 0u32;
-    for i in 1..n {
-        for j in 0..i {
-            if is_clear::<L>(&basis, n, pair(i, j)) {
-                clear = clear.saturating_add(1);
-            }
-        }
-    }
-    clear
-}
-
-// The two-level word of two factors, counted from 0.
-fn pair(i: u8, j: u8) -> u64 {
-    letter(i) | letter(j)
-}
-
-// The two-level word of one factor, counted from 0.
-fn letter(i: u8) -> u64 {
-    1u64.wrapping_shl(i as u32)
-}
-
-// Whether no word of one letter and no other of two letters is an alias of a pair.
-fn is_clear<L: Levels>(basis: &Basis, n: u8, pair_word: u64) -> bool {
-    let least = basis.reduce::<L>(n, pair_word);
-    for i in 0..n {
-        if basis.reduce::<L>(n, letter(i)) == least {
-            return false;
-        }
-        for j in 0..i {
-            let other = pair(i, j);
-            if other != pair_word && basis.reduce::<L>(n, other) == least {
-                return false;
-            }
-        }
-    }
-    true
 }
