@@ -4,7 +4,7 @@ ghost use Rattle.plan.specs.Memory.{holding, wrote};
 use crate::refusal::Refusal;
 
 // An answer is put at the start of the memory, if it fits.
-pub(crate) fn store<T: Copy>(answer: &[T], memory: &mut [T]) -> Result<usize, Refusal>
+pub fn store<T: Copy>(answer: &[T], memory: &mut [T]) -> Result<usize, Refusal>
     ensures stored { λ _. ⌜ now (memory .exit) ≡ holding (now (answer .entry)) (now (memory .entry)) ⌝ }
     ensures count { λ r. ⌜ r ≡ wrote (now (answer .entry)) (now (memory .entry)) ⌝ }
 {

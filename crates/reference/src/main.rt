@@ -1,8 +1,10 @@
 // Plan files with what their pages must be: printed, and compared with the file `stdout` of this crate.
-use plan::page::PAGE;
-use plan::trial_page;
+use history::trial_page;
 use std::io;
 use std::io::Write;
+
+// A page has at most so many bytes.
+const PAGE: usize = 1024;
 
 // A plan file, and what it holds.
 struct Case {

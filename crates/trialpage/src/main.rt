@@ -1,9 +1,11 @@
 // Reads a plan file from standard input, and prints its trial page, or one line with the number of the refusal.
-use plan::page::PAGE;
-use plan::trial_page;
+use history::trial_page;
 use std::io;
 use std::io::Read;
 use std::io::Write;
+
+// A page has at most so many bytes.
+const PAGE: usize = 1024;
 
 fn main(rt: LibcRuntime) -> io::Result<()> {
     let mut file = Vec::new(rt.alloc());

@@ -1,0 +1,6 @@
+pub mod Alike
+pub mod Called
+pub mod Carrying
+pub mod Filed
+pub mod Twos
+pub mod Whatever
