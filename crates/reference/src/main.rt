@@ -1,7 +1,15 @@
-// Plan files with what their pages must be: printed, and compared with the file `stdout` of this crate.
+// Plan files, calls and preferences with what they give: printed, and compared with the file `stdout` of this crate.
+use calls::aliases;
+use calls::generators;
+use calls::limits;
+use calls::three_factors;
 use history::trial_page;
 use std::io;
 use std::io::Write;
+use verdicts::verdicts as judged;
+
+mod calls;
+mod verdicts;
 
 // A page has at most so many bytes.
 const PAGE: usize = 1024;
@@ -12,7 +20,7 @@ struct Case {
     file: &'static [u8],
 }
 
-static CASES: [Case; 27] = [
+static CASES: [Case; 30] = [
     Case {
         name: "eight factors, three defining and three block words",
         file: b"\x44\x57\x46\x01\x00\x02\x08\x03\x03\x27\x00\x00\x00\x00\x00\x00\x00\x4b\x00\x00\x00\x00\x00\x00\x00\x95\x00\x00\x00\x00\x00\x00\x00\x05\x00\x00\x00\x00\x00\x00\x00\x06\x00\x00\x00\x00\x00\x00\x00\x09\x00\x00\x00\x00\x00\x00\x00",
@@ -121,6 +129,18 @@ static CASES: [Case; 27] = [
         name: "three levels, twice a word",
         file: b"\x44\x57\x46\x01\x00\x03\x06\x01\x01\x15\x00\x00\x00\x00\x00\x00\x00\x2a\x00\x00\x00\x00\x00\x00\x00",
     },
+    Case {
+        name: "six factors in sixteen blocks (Cheng, Wu and Wu 2003, first example)",
+        file: b"\x44\x57\x46\x01\x00\x02\x06\x00\x04\x03\x00\x00\x00\x00\x00\x00\x00\x0c\x00\x00\x00\x00\x00\x00\x00\x15\x00\x00\x00\x00\x00\x00\x00\x25\x00\x00\x00\x00\x00\x00\x00",
+    },
+    Case {
+        name: "nine factors, shortest generators (Cheng, Wu and Wu 2003, third example)",
+        file: b"\x44\x57\x46\x01\x00\x02\x09\x04\x00\x2f\x00\x00\x00\x00\x00\x00\x00\x57\x00\x00\x00\x00\x00\x00\x00\x9a\x00\x00\x00\x00\x00\x00\x00\x1c\x01\x00\x00\x00\x00\x00\x00",
+    },
+    Case {
+        name: "eleven factors, twelve clear pairs (Yang 2007, first grid)",
+        file: b"\x44\x57\x46\x01\x00\x02\x0b\x06\x00\x07\x00\x00\x00\x00\x00\x00\x00\x19\x00\x00\x00\x00\x00\x00\x00\x2a\x00\x00\x00\x00\x00\x00\x00\x4b\x00\x00\x00\x00\x00\x00\x00\x80\x03\x00\x00\x00\x00\x00\x00\x81\x04\x00\x00\x00\x00\x00\x00",
+    },
 ];
 
 // Prints the page of a file, or the number of its refusal.
@@ -141,5 +161,9 @@ fn main(rt: LibcRuntime) -> io::Result<()> {
     for case in &CASES {
         show(&rt, case)?;
     }
-    Ok(())
+    limits(&rt)?;
+    three_factors(&rt)?;
+    aliases(&rt)?;
+    generators(&rt)?;
+    judged(&rt)
 }
