@@ -1,3 +1,4 @@
 pub mod Calls
 pub mod Law
 pub mod Meant
+pub mod Reference

@@ -2,6 +2,7 @@
 pub mod asked;
 pub mod call;
 pub mod file;
+pub mod reference;
 pub mod run;
 pub mod trial;
 

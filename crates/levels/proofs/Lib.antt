@@ -3,7 +3,6 @@ pub mod Ascending
 pub mod Computed
 pub mod Counting
 pub mod Digits
-pub mod Examples
 pub mod Fields
 pub mod Generation
 pub mod Growth
