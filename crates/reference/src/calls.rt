@@ -16,7 +16,7 @@ use preferences::ShortestPreference;
 use std::io;
 
 // Prints what a call answered: a number, or a refusal.
-pub fn outcome(rt: &LibcRuntime, call: &str, answer: Result<u64, Refusal>) -> io::Result<()> {
+pub(crate) fn outcome(rt: &LibcRuntime, call: &str, answer: Result<u64, Refusal>) -> io::Result<()> {
     match answer {
         Ok(number) => println!(rt, "{call}: {number}"),
         Err(refusal) => {
@@ -56,7 +56,7 @@ fn settled(n: u8, defining: &[u64], block: &[u64]) -> SettledPlan<TwoLevels> {
 }
 
 // Starts, admissions and strikes at their limits.
-pub fn limits(rt: &LibcRuntime) -> io::Result<()> {
+pub(crate) fn limits(rt: &LibcRuntime) -> io::Result<()> {
     let mut plan = OpenPlan::<TwoLevels>::new();
     acted(rt, "start 0", plan.start(0))?;
     acted(rt, "start 33", plan.start(33))?;
@@ -83,7 +83,7 @@ pub fn limits(rt: &LibcRuntime) -> io::Result<()> {
 }
 
 // The questions about three factors with the defining word 7.
-pub fn three_factors(rt: &LibcRuntime) -> io::Result<()> {
+pub(crate) fn three_factors(rt: &LibcRuntime) -> io::Result<()> {
     let plan = settled(3, &[7], &[]);
     wrote(rt, "write into 16 bytes", plan.write(&mut [0; 16]))?;
     wrote(rt, "write into 17 bytes", plan.write(&mut [0; 17]))?;
@@ -96,7 +96,7 @@ pub fn three_factors(rt: &LibcRuntime) -> io::Result<()> {
 }
 
 // The aliases of 6 over the defining words 39, 75, 149 of eight factors.
-pub fn aliases(rt: &LibcRuntime) -> io::Result<()> {
+pub(crate) fn aliases(rt: &LibcRuntime) -> io::Result<()> {
     let plan = settled(8, &[39, 75, 149], &[5, 6, 9]);
     for m in 0..9u64 {
         outcome(rt, "alias of 6", plan.alias_member(6, m))?;
@@ -105,7 +105,7 @@ pub fn aliases(rt: &LibcRuntime) -> io::Result<()> {
 }
 
 // Generators by other preferences than the page's, with scores.
-pub fn generators(rt: &LibcRuntime) -> io::Result<()> {
+pub(crate) fn generators(rt: &LibcRuntime) -> io::Result<()> {
     let longest = Reversed(Shortest);
     let mut words = [0; 16];
     let plan = settled(6, &[], &[3, 12, 21, 37]);

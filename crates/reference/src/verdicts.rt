@@ -21,7 +21,7 @@ fn compared(rt: &LibcRuntime, a: u64, b: u64) -> io::Result<()> {
     }
 }
 
-pub fn verdicts(rt: &LibcRuntime) -> io::Result<()> {
+pub(crate) fn verdicts(rt: &LibcRuntime) -> io::Result<()> {
     compared(rt, 9, 10)?;
     compared(rt, 10, 12)?;
     compared(rt, 15, 12)?;
