@@ -1,5 +1,6 @@
 -- Each count is exact: the generated words of a length come in groups of s − 1, the multiples of a word by the levels other than 0.
-use Rattle.std.proofs.Common.{◌≡◌, ℕ, zero, suc, ◌+◌, ◌-◌, ◌*◌, ◌/◌, ◌<◌, ◌≤◌, Bool, true, false, cond, ◌&&◌, eqb, leb, List, [], ◌∷◌, map, All, sym, refl, ap, ◌∙◌, subst, inl, inr, suc-mul, one-mul, mul-zero, zero-mul, arith}
+use Rattle.std.specs.List.{AllByRecursion}
+use Rattle.std.proofs.Common.{◌≡◌, ℕ, zero, suc, ◌+◌, ◌-◌, ◌*◌, ◌/◌, ◌<◌, ◌≤◌, Bool, true, false, cond, ◌&&◌, eqb, leb, List, [], ◌∷◌, map, sym, refl, ap, ◌∙◌, subst, inl, inr, suc-mul, one-mul, mul-zero, zero-mul, arith}
 use native.Mathlib.Nat.{mul-div_cancel_left}
 use Rattle.std.proofs.lemmas.Bool.{cases_eq, eqb-true, ne_eqb}
 use Rattle.std.proofs.lemmas.Bool.Decides.{nat_tests, same_from_decides, Decides-like, Decides-eqb}
@@ -33,7 +34,7 @@ first_positive (d ∷ ds) h = elim (cases_eq d 0) [
 ]
 
 -- it is a level where all digits are
-first_level : (s : ℕ) → 0 < s → (ds : List ℕ) → All (λ d. d < s) ds → first ds < s
+first_level : (s : ℕ) → 0 < s → (ds : List ℕ) → AllByRecursion (λ d. d < s) ds → first ds < s
 first_level s p [] f = p
 first_level s p (d ∷ ds) f = let k = first_level s p ds f.1 in let h = f.0 in grind (arith, nat_tests)
 
@@ -74,12 +75,12 @@ module _ (A : Arithmetic) (L : Lawful A) where
       (Decides-eqb d 0)
 
   -- as many digits of a multiple are not 0
-  nonzero_multiple : (c : ℕ) → c < A.s → 0 < c → (ds : List ℕ) → All (λ d. d < A.s) ds → nonzero (map (A.times c) ds) ≡ nonzero ds
+  nonzero_multiple : (c : ℕ) → c < A.s → 0 < c → (ds : List ℕ) → AllByRecursion (λ d. d < A.s) ds → nonzero (map (A.times c) ds) ≡ nonzero ds
   nonzero_multiple c lc pc [] f = refl
   nonzero_multiple c lc pc (d ∷ ds) f = cc (product_zero c d lc pc f.0, nonzero_multiple c lc pc ds f.1)
 
   -- the first digit of a multiple is the multiple of the first
-  first_multiple : (c : ℕ) → c < A.s → 0 < c → (ds : List ℕ) → All (λ d. d < A.s) ds → first (map (A.times c) ds) ≡ A.times c (first ds)
+  first_multiple : (c : ℕ) → c < A.s → 0 < c → (ds : List ℕ) → AllByRecursion (λ d. d < A.s) ds → first (map (A.times c) ds) ≡ A.times c (first ds)
   first_multiple c lc pc [] f = sym (zero_times c lc)
   first_multiple c lc pc (d ∷ ds) f =
       cc (product_zero c d lc pc f.0, first_multiple c lc pc ds f.1, into (eqb d 0) (first ds) d)

@@ -1,5 +1,6 @@
 -- Words by their highest digits: what a sum with a smaller word leaves, and what the multiples of a word change.
-use Rattle.std.proofs.Common.{◌≡◌, ℕ, zero, suc, ◌+◌, ◌-◌, ◌*◌, ◌/◌, ◌%◌, ◌^◌, ◌<◌, ◌≤◌, ◌⊎◌, List, [], ◌∷◌, map, length, get_or, replicate, All, sym, refl, ap, ◌∙◌, subst, inl, inr, mul-le-mul_right, mod-eq_of_lt, mul_assoc, suc-mul, mul_comm, add_comm, one-mul, mul-zero, zero-mul, mul-suc, mul-add, div-mul-le_self, arith}
+use Rattle.std.specs.List.{AllByRecursion}
+use Rattle.std.proofs.Common.{◌≡◌, ℕ, zero, suc, ◌+◌, ◌-◌, ◌*◌, ◌/◌, ◌%◌, ◌^◌, ◌<◌, ◌≤◌, ◌⊎◌, List, [], ◌∷◌, map, length, get_or, replicate, sym, refl, ap, ◌∙◌, subst, inl, inr, mul-le-mul_right, mod-eq_of_lt, mul_assoc, suc-mul, mul_comm, add_comm, one-mul, mul-zero, zero-mul, mul-suc, mul-add, div-mul-le_self, arith}
 use native.Mathlib.Nat.{div-eq_of_lt, lt-div-mul-add}
 use Rattle.std.proofs.lemmas.Nat.{pow_pos, pow-add, shr-shr, shr_high, mul-add-lt, div_below, le-div, mod_below}
 use Rattle.std.proofs.lemmas.List.Elements.{All-get_or}
@@ -88,7 +89,7 @@ module _ (A : Arithmetic) where
 
 module _ (A : Arithmetic) (L : Lawful A) where
   -- no word adds nothing
-  plus_none : (n : ℕ) (xs : List ℕ) → length xs ≡ n → All (λ d. d < A.s) xs → zip_with A.plus xs (replicate n 0) ≡ xs
+  plus_none : (n : ℕ) (xs : List ℕ) → length xs ≡ n → AllByRecursion (λ d. d < A.s) xs → zip_with A.plus xs (replicate n 0) ≡ xs
   plus_none n [] e f = refl
   plus_none zero (x ∷ xs) e f = absurd (omega arith)
   plus_none (suc n) (x ∷ xs) e f =
@@ -103,7 +104,7 @@ module _ (A : Arithmetic) (L : Lawful A) where
       rw (e, times_none c lc n) (omega (arith, zero-mul (2 ^ A.bits)))
 
   -- digits below a place change nothing above it
-  zip_high : (k n a b : ℕ) → All (λ d. d < A.s) (digits A n a) → b < power A k →
+  zip_high : (k n a b : ℕ) → AllByRecursion (λ d. d < A.s) (digits A n a) → b < power A k →
       code A (zip_with A.plus (digits A n a) (digits A n b)) / power A k ≡ code A (digits A n a) / power A k
   zip_high zero n a b f l =
       let z : b ≡ 0 = let h : b < 1 = rw mul-zero at l in omega arith in
@@ -119,7 +120,7 @@ module _ (A : Arithmetic) (L : Lawful A) where
       ∙ sym (down A k d (code A (digits A n (a / 2 ^ A.bits))) ld)
 
   -- a multiple has no digit above those of the word
-  map_low : (c : ℕ) → c < A.s → (k n v : ℕ) → All (λ d. d < A.s) (digits A n v) → v < power A k → code A (map (A.times c) (digits A n v)) < power A k
+  map_low : (c : ℕ) → c < A.s → (k n v : ℕ) → AllByRecursion (λ d. d < A.s) (digits A n v) → v < power A k → code A (map (A.times c) (digits A n v)) < power A k
   map_low c lc zero n v f l =
       let z : v ≡ 0 = let h : v < 1 = rw mul-zero at l in omega arith in
       let e : code A (map (A.times c) (digits A n v)) ≡ 0 = ap (λ w. code A (map (A.times c) (digits A n w))) z ∙ ap (λ ds. code A (map (A.times c) ds)) (zero_digits A n) ∙ times_none c lc n in

@@ -1,4 +1,6 @@
 // The library for callers in Rust and C: a plan file in, one call, an answer or the number of a refusal out.
+#![tactic(auto)]
+
 mod changes;
 mod file;
 mod filling;

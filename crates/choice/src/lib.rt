@@ -1,4 +1,6 @@
 // The choice of generators: the best independent words of what two lists generate.
+#![tactic(auto)]
+
 ghost use Rattle.std.specs.Prelude.{◌≡◌, ◌<◌, ◌≤◌, [], ◌∷◌, ◌++◌, length, take, drop};
 ghost use Rattle.levels.specs.Space.{AllWords, Word};
 ghost use Rattle.levels.specs.Generated.{combinations, generated};

@@ -1,4 +1,6 @@
 // What a plan holds, the calls that change it, refusals, and the memory that calls are lent.
+#![tactic(auto)]
+
 mod admission;
 pub mod content;
 mod held;

@@ -1,5 +1,6 @@
 -- Every arithmetic of two levels that keeps its laws is that of two levels.
-use Rattle.std.proofs.Common.{◌≡◌, ℕ, zero, suc, ◌<◌, cond, ◌&&◌, eqb, ltb, List, [], ◌∷◌, map, All, sym, refl, ap, ◌∙◌, subst, inl, inr, arith}
+use Rattle.std.specs.List.{AllByRecursion}
+use Rattle.std.proofs.Common.{◌≡◌, ℕ, zero, suc, ◌<◌, cond, ◌&&◌, eqb, ltb, List, [], ◌∷◌, map, sym, refl, ap, ◌∙◌, subst, inl, inr, arith}
 use Rattle.std.proofs.lemmas.Bool.{cases_lt, cond-true, eq-eqb}
 use Rattle.levels.specs.Arithmetic.{Arithmetic, Field, Lawful, two, plus_modulo, times_modulo}
 use Rattle.levels.specs.Words.{digits, code, legal, zip_with, word_sum, word_multiple}
@@ -14,13 +15,13 @@ zero_or_one P p0 p1 (suc zero) l = p1
 zero_or_one P p0 p1 (suc (suc a)) l = absurd (omega arith)
 
 -- functions that agree on the numbers of a list
-map_same : (f g : ℕ → ℕ) (xs : List ℕ) → All (λ x. x < 2) xs → ((x : ℕ) → x < 2 → f x ≡ g x) → map f xs ≡ map g xs
+map_same : (f g : ℕ → ℕ) (xs : List ℕ) → AllByRecursion (λ x. x < 2) xs → ((x : ℕ) → x < 2 → f x ≡ g x) → map f xs ≡ map g xs
 map_same f g [] h same = refl
 map_same f g (x ∷ xs) h same =
     ap (λ y. y ∷ map f xs) (same x h.0) ∙ ap (λ ys. g x ∷ ys) (map_same f g xs h.1 same)
 
 -- functions that agree on the pairs of numbers of two lists
-zip_same : (f g : ℕ → ℕ → ℕ) (xs ys : List ℕ) → All (λ x. x < 2) xs → All (λ y. y < 2) ys → ((x y : ℕ) → x < 2 → y < 2 → f x y ≡ g x y) → zip_with f xs ys ≡ zip_with g xs ys
+zip_same : (f g : ℕ → ℕ → ℕ) (xs ys : List ℕ) → AllByRecursion (λ x. x < 2) xs → AllByRecursion (λ y. y < 2) ys → ((x y : ℕ) → x < 2 → y < 2 → f x y ≡ g x y) → zip_with f xs ys ≡ zip_with g xs ys
 zip_same f g [] ys h k same = refl
 zip_same f g (x ∷ xs) [] h k same = refl
 zip_same f g (x ∷ xs) (y ∷ ys) h k same =

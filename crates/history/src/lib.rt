@@ -1,4 +1,6 @@
 // Lists of calls on a new plan, and what holds whatever they were.
+#![tactic(auto)]
+
 pub mod asked;
 pub mod call;
 pub mod file;

@@ -1,5 +1,6 @@
 -- Codes and their digits: each list of digits belongs to one code, and each code below the limit to its digits.
-use Rattle.std.proofs.Common.{◌≡◌, ℕ, zero, suc, ◌*◌, ◌/◌, ◌%◌, ◌^◌, ◌<◌, ◌≤◌, true, ◌&&◌, ltb, leb, List, [], ◌∷◌, length, get_or, Decides, All, sym, refl, ap, ◌∙◌, add_comm, mul-zero, mul-suc, div-one, arith}
+use Rattle.std.specs.List.{AllByRecursion}
+use Rattle.std.proofs.Common.{◌≡◌, ℕ, zero, suc, ◌*◌, ◌/◌, ◌%◌, ◌^◌, ◌<◌, ◌≤◌, true, ◌&&◌, ltb, leb, List, [], ◌∷◌, length, get_or, Decides, sym, refl, ap, ◌∙◌, add_comm, mul-zero, mul-suc, div-one, arith}
 use native.Mathlib.Nat.{mod-add-div'}
 use Rattle.std.proofs.lemmas.Nat.{pow_pos, pow-add, shr-shr, shr_below, shr_high, mod_low, mod_below, mul-add-lt}
 use Rattle.std.proofs.lemmas.Bool.Decides.{Decides-by_and, Decides-ltb}
@@ -28,19 +29,19 @@ module _ (A : Arithmetic) where
   code_digits (suc n) w l = rw (code_digits n (w / 2 ^ A.bits) (rest_below n w l)) (mod-add-div' w (2 ^ A.bits))
 
   -- the digits of the code of a list are that list
-  pub digits_code : (ds : List ℕ) → All (λ d. d < 2 ^ A.bits) ds → digits A (length ds) (code A ds) ≡ ds
+  pub digits_code : (ds : List ℕ) → AllByRecursion (λ d. d < 2 ^ A.bits) ds → digits A (length ds) (code A ds) ≡ ds
   digits_code [] f = refl
   digits_code (d ∷ ds) f =
       rw (add_comm d (code A ds * 2 ^ A.bits), mod_low (code A ds) A.bits d f.0, shr_high (code A ds) A.bits d f.0, digits_code ds f.1)
 
   -- and no bit beyond its digits is set
-  pub code_below : (ds : List ℕ) → All (λ d. d < 2 ^ A.bits) ds → code A ds < 2 ^ (A.bits * length ds)
+  pub code_below : (ds : List ℕ) → AllByRecursion (λ d. d < 2 ^ A.bits) ds → code A ds < 2 ^ (A.bits * length ds)
   code_below [] f = rw mul-zero (omega arith)
   code_below (d ∷ ds) f =
       rw (next_power (length ds)) (omega (arith, mul-add-lt (code A ds) (2 ^ A.bits) d (2 ^ (A.bits * length ds)) (code_below ds f.1) f.0))
 
   -- each digit of a code is within its bits
-  pub digits_fit : (n w : ℕ) → All (λ d. d < 2 ^ A.bits) (digits A n w)
+  pub digits_fit : (n w : ℕ) → AllByRecursion (λ d. d < 2 ^ A.bits) (digits A n w)
   digits_fit zero w = tt
   digits_fit (suc n) w = (mod_below w (2 ^ A.bits) (pow_pos A.bits), digits_fit n (w / 2 ^ A.bits))
 
@@ -52,7 +53,7 @@ module _ (A : Arithmetic) where
       rw (mul-suc, add_comm (A.bits * i) A.bits, ← shr-shr w A.bits (A.bits * i)) (digit_place n (w / 2 ^ A.bits) i (omega arith))
 
   -- the test of levels says that each digit is below s
-  pub levels_decide : (ds : List ℕ) → Decides (all_levels A ds) (All (λ d. d < A.s) ds)
+  pub levels_decide : (ds : List ℕ) → Decides (all_levels A ds) (AllByRecursion (λ d. d < A.s) ds)
   levels_decide = Decides-by_and (λ d. ltb d A.s) (λ d. d < A.s) (all_levels A) (λ d. Decides-ltb d A.s) refl (λ _ _. refl)
 
   -- what a legal code is: from 1 to 32 factors, no bit beyond them, every digit below s
@@ -60,7 +61,7 @@ module _ (A : Arithmetic) where
     pub low : 1 ≤ n
     pub high : n ≤ 32
     pub below : w < 2 ^ (A.bits * n)
-    pub levels : All (λ d. d < A.s) (digits A n w)
+    pub levels : AllByRecursion (λ d. d < A.s) (digits A n w)
 
   -- a word has these four
   pub word_legal : (n w : ℕ) → Word A n w → Legal n w
@@ -88,16 +89,16 @@ module _ (A : Arithmetic) where
 
 module _ (A : Arithmetic) (L : Lawful A) where
   -- levels are within the bits of a digit
-  pub levels_fit : (ds : List ℕ) → All (λ d. d < A.s) ds → All (λ d. d < 2 ^ A.bits) ds
+  pub levels_fit : (ds : List ℕ) → AllByRecursion (λ d. d < A.s) ds → AllByRecursion (λ d. d < 2 ^ A.bits) ds
   levels_fit [] f = tt
   levels_fit (d ∷ ds) f = (omega (arith, L.fits, f.0), levels_fit ds f.1)
 
   -- the digits of the code of a list of n levels are that list
-  pub digits_of_code : (n : ℕ) (ds : List ℕ) → length ds ≡ n → All (λ d. d < A.s) ds → digits A n (code A ds) ≡ ds
+  pub digits_of_code : (n : ℕ) (ds : List ℕ) → length ds ≡ n → AllByRecursion (λ d. d < A.s) ds → digits A n (code A ds) ≡ ds
   digits_of_code n ds e f = rw (← e) (digits_code A ds (levels_fit ds f))
 
   -- the code of a list of n levels is legal
-  pub code_word : (n : ℕ) → 1 ≤ n → n ≤ 32 → (ds : List ℕ) → length ds ≡ n → All (λ d. d < A.s) ds → Word A n (code A ds)
+  pub code_word : (n : ℕ) → 1 ≤ n → n ≤ 32 → (ds : List ℕ) → length ds ≡ n → AllByRecursion (λ d. d < A.s) ds → Word A n (code A ds)
   code_word n low high ds e f =
       legal_word A n (code A ds) (record
       { low = low; high = high; below = rw (← e) (code_below A ds (levels_fit ds f)); levels = rw (digits_of_code n ds e f) f })

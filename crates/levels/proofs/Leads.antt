@@ -1,5 +1,6 @@
 -- The digit of one word at the highest digit of another that is not 0: where it is 0, the one is smallest by the other.
-use Rattle.std.proofs.Common.{◌≡◌, ℕ, ◌^◌, ◌<◌, ◌≤◌, Bool, true, false, cond, eqb, List, [], ◌∷◌, map, length, All, sym, refl, ap, ◌∙◌, inl, inr, le_of_eq, arith}
+use Rattle.std.specs.List.{AllByRecursion}
+use Rattle.std.proofs.Common.{◌≡◌, ℕ, ◌^◌, ◌<◌, ◌≤◌, Bool, true, false, cond, eqb, List, [], ◌∷◌, map, length, sym, refl, ap, ◌∙◌, inl, inr, le_of_eq, arith}
 use Rattle.std.proofs.lemmas.Nat.{mul-add-lt}
 use Rattle.std.proofs.lemmas.Bool.{cases_eq}
 use Rattle.std.proofs.lemmas.Bool.Decides.{nat_tests}
@@ -62,7 +63,7 @@ lead_none (v ∷ vs) [] e = refl
 lead_none (v ∷ vs) (x ∷ xs) e = grind (arith, nat_tests)
 
 -- a lead is one of the digits, or 0
-lead_below : (s : ℕ) → 0 < s → (vs xs : List ℕ) → All (λ d. d < s) xs → lead vs xs < s
+lead_below : (s : ℕ) → 0 < s → (vs xs : List ℕ) → AllByRecursion (λ d. d < s) xs → lead vs xs < s
 lead_below s p [] xs f = p
 lead_below s p (v ∷ vs) [] f = p
 lead_below s p (v ∷ vs) (x ∷ xs) f = let k = lead_below s p vs xs f.1 in let h = f.0 in grind (arith, nat_tests)
@@ -82,7 +83,7 @@ alike_back (v ∷ vs) (x ∷ xs) [] h = absurd h
 alike_back (v ∷ vs) (x ∷ xs) (y ∷ ys) h = ((λ e. sym (h.0 e)), alike_back vs xs ys h.1)
 
 -- lists alike above the lead compare as their leads do
-code_order : (A : Arithmetic) (vs xs ys : List ℕ) → All (λ d. d < 2 ^ A.bits) xs → Alike vs xs ys → lead vs xs < lead vs ys → code A xs < code A ys
+code_order : (A : Arithmetic) (vs xs ys : List ℕ) → AllByRecursion (λ d. d < 2 ^ A.bits) xs → Alike vs xs ys → lead vs xs < lead vs ys → code A xs < code A ys
 code_order A [] xs ys f h l = absurd (omega arith)
 code_order A (v ∷ vs) [] ys f h l = absurd h
 code_order A (v ∷ vs) (x ∷ xs) [] f h l = absurd h
@@ -97,7 +98,7 @@ code_order A (v ∷ vs) (x ∷ xs) (y ∷ ys) f h l = elim (cases_eq (nonzero vs
 
 module _ (A : Arithmetic) (L : Lawful A) where
   -- adding multiples of zeros changes nothing
-  zip_nothing : (c : ℕ) → c < A.s → (vs xs : List ℕ) → nonzero vs ≡ 0 → length xs ≡ length vs → All (λ d. d < A.s) xs →
+  zip_nothing : (c : ℕ) → c < A.s → (vs xs : List ℕ) → nonzero vs ≡ 0 → length xs ≡ length vs → AllByRecursion (λ d. d < A.s) xs →
       xs ≡ zip_with A.plus xs (map (A.times c) vs)
   zip_nothing c lc vs [] e l f = refl
   zip_nothing c lc [] (x ∷ xs) e l f = absurd (omega arith)
@@ -115,7 +116,7 @@ module _ (A : Arithmetic) (L : Lawful A) where
       )
 
   -- adding a multiple of vs changes nothing above its highest digit that is not 0
-  alike_zip : (c : ℕ) → c < A.s → (vs xs : List ℕ) → length xs ≡ length vs → All (λ d. d < A.s) xs →
+  alike_zip : (c : ℕ) → c < A.s → (vs xs : List ℕ) → length xs ≡ length vs → AllByRecursion (λ d. d < A.s) xs →
       Alike vs xs (zip_with A.plus xs (map (A.times c) vs))
   alike_zip c lc [] xs l f = tt
   alike_zip c lc (v ∷ vs) [] l f = absurd (omega arith)

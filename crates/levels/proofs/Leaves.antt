@@ -31,7 +31,7 @@ first_words A n width xs i h l m =
 
 module _ (A : Arithmetic) where
   -- a count that has been added to is of 64 bits
-  pub adds_fit : (xs before after : List ℕ) → Adds A xs before after → (i : ℕ) → i < 33 → get_or after i 0 < 2 ^ 64
+  pub adds_fit : (xs before after : List ℕ) → Adds A xs before after → (i : ℕ) → i < 65 → get_or after i 0 < 2 ^ 64
   adds_fit xs before after h i l = rw (h i l) (mod-lt (get_or before i 0 + of_length A i xs) (omega arith))
 
   -- the words of two lists are added one list after the other
@@ -44,7 +44,7 @@ module _ (A : Arithmetic) where
       ∙ ap (λ v. v % 2 ^ 64) (add_assoc (get_or before i 0) (how_many p xs) (how_many p ys) ∙ ap (λ v. get_or before i 0 + v) (sym (how_many_append p xs ys)))
 
   -- a word is added by one more at its length k
-  pub adds_one : (x k : ℕ) (before : List ℕ) → k ≡ word_length A x → k < length before → ((i : ℕ) → i < 33 → get_or before i 0 < 2 ^ 64) →
+  pub adds_one : (x k : ℕ) (before : List ℕ) → k ≡ word_length A x → k < length before → ((i : ℕ) → i < 65 → get_or before i 0 < 2 ^ 64) →
       Adds A (x ∷ []) before (set before k ((get_or before k 0 + 1) % 2 ^ 64))
   adds_one x k before e inside fit i l =
       let v = (get_or before k 0 + 1) % 2 ^ 64 in
@@ -84,9 +84,9 @@ module _ (A : Arithmetic) (L : Lawful A) (n : ℕ) where
   pub code_legal : (c w x : ℕ) → Word A n x → code_sum A x (word_multiple A n c w) ≡ word_sum A n x (word_multiple A n c w)
   code_legal c w x h = sym (sum_code A L n x (word_multiple A n c w) h (multiple_legal c w x h))
 
-  -- the sum of a word and a word of a list has one of 33 lengths
+  -- the sum of a word and a word of a list has one of 65 lengths
   pub leaf_length : (a : ℕ) (leaves : List ℕ) (k sum size : ℕ) → Word A n a → AllWords A n leaves → k < length leaves →
-      sum ≡ code_sum A a (get_or leaves k 0) → size ≡ word_length A sum → size < 33
+      sum ≡ code_sum A a (get_or leaves k 0) → size ≡ word_length A sum → size < 65
   leaf_length a leaves k sum size wa wl l es ez =
       let b = get_or leaves k 0 in
       let wb = wl k l in
@@ -161,10 +161,10 @@ module _ (A : Arithmetic) (L : Lawful A) (n : ℕ) where
   no_tally ws x i h = sym (cond-false (legal A n x) (of_length A i (aliases A n ws x) % 2 ^ 64) 0 h)
 
   -- the aliases of a word, added to counts of 0, are its tally
-  pub tally_from : (ws : List ℕ) (x : ℕ) (after : List ℕ) → Word A n x → Adds A (aliases A n ws x) (replicate 33 0) after →
-      (i : ℕ) → i < 33 → get_or after i 0 ≡ tallied A n ws x i
+  pub tally_from : (ws : List ℕ) (x : ℕ) (after : List ℕ) → Word A n x → Adds A (aliases A n ws x) (replicate 65 0) after →
+      (i : ℕ) → i < 65 → get_or after i 0 ≡ tallied A n ws x i
   tally_from ws x after wx h i l =
-      let z : get_or (replicate 33 0) i 0 ≡ 0 = get_or-replicate 33 i 0 0 l in
+      let z : get_or (replicate 65 0) i 0 ≡ 0 = get_or-replicate 65 i 0 0 l in
       h i l
       ∙ ap (λ m. m % 2 ^ 64) (ap (λ m. m + of_length A i (aliases A n ws x)) z ∙ zero-add (of_length A i (aliases A n ws x)))
       ∙ sym (cond-true (legal A n x) (of_length A i (aliases A n ws x) % 2 ^ 64) 0 wx)

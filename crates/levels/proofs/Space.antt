@@ -1,5 +1,6 @@
 -- Legal words of n factors form a vector space over the levels.
-use Rattle.std.proofs.Common.{◌≡◌, ℕ, zero, suc, ◌*◌, ◌<◌, ◌≤◌, false, ◌&&◌, ltb, List, [], ◌∷◌, map, length, replicate, All, sym, refl, ap, ◌∙◌, inl, inr, arith}
+use Rattle.std.specs.List.{AllByRecursion}
+use Rattle.std.proofs.Common.{◌≡◌, ℕ, zero, suc, ◌*◌, ◌<◌, ◌≤◌, false, ◌&&◌, ltb, List, [], ◌∷◌, map, length, replicate, sym, refl, ap, ◌∙◌, inl, inr, arith}
 use native.Mathlib.Nat.{zero-div, zero-mod}
 use Rattle.std.proofs.lemmas.List.{length-map}
 use Rattle.std.proofs.lemmas.Nat.{pow_pos}
@@ -23,7 +24,7 @@ zip_length f (x ∷ xs) (y ∷ ys) e = ap suc (zip_length f xs ys (omega arith))
 module _ (A : Arithmetic) (L : Lawful A) where
   -- a list of levels
   abbrev Levels : List ℕ → Type 0
-  Levels ds = All (λ d. d < A.s) ds
+  Levels ds = AllByRecursion (λ d. d < A.s) ds
 
   -- 0 is a level
   pub zero_level : 0 < A.s

@@ -1,5 +1,6 @@
 -- Unit words: n words that generate every word of n factors, so no more than n words are independent.
-use Rattle.std.proofs.Common.{◌≡◌, ℕ, zero, suc, ◌+◌, ◌<◌, ◌≤◌, List, [], ◌∷◌, ◌++◌, map, length, get_or, replicate, All, refl, ap, subst, zero-mul, arith, length-append}
+use Rattle.std.specs.List.{AllByRecursion}
+use Rattle.std.proofs.Common.{◌≡◌, ℕ, zero, suc, ◌+◌, ◌<◌, ◌≤◌, List, [], ◌∷◌, ◌++◌, map, length, get_or, replicate, refl, ap, subst, zero-mul, arith, length-append}
 use lib.ListN.{length-replicate}
 use Rattle.std.proofs.lemmas.List.{append-nil}
 use Rattle.levels.specs.Arithmetic.{Arithmetic, Lawful}
@@ -28,24 +29,24 @@ code_blank A (suc m) = rw (code_blank A m, zero-mul)
 
 module _ (A : Arithmetic) (L : Lawful A) where
   -- zeros, then levels, are levels
-  zeros_then : (m : ℕ) (ds : List ℕ) → All (λ d. d < A.s) ds → All (λ d. d < A.s) (replicate m 0 ++ ds)
+  zeros_then : (m : ℕ) (ds : List ℕ) → AllByRecursion (λ d. d < A.s) ds → AllByRecursion (λ d. d < A.s) (replicate m 0 ++ ds)
   zeros_then zero ds f = f
   zeros_then (suc m) ds f = (zero_level A L, zeros_then m ds f)
 
   -- zeros are levels
-  zeros_level : (m : ℕ) → All (λ d. d < A.s) (replicate m 0)
+  zeros_level : (m : ℕ) → AllByRecursion (λ d. d < A.s) (replicate m 0)
   zeros_level zero = tt
   zeros_level (suc m) = (zero_level A L, zeros_level m)
 
   -- multiples of zeros add nothing
-  zip_blank : (c : ℕ) → c < A.s → (ds : List ℕ) → All (λ d. d < A.s) ds → zip_with A.plus (map (A.times c) (replicate (length ds) 0)) ds ≡ ds
+  zip_blank : (c : ℕ) → c < A.s → (ds : List ℕ) → AllByRecursion (λ d. d < A.s) ds → zip_with A.plus (map (A.times c) (replicate (length ds) 0)) ds ≡ ds
   zip_blank c lc [] f = refl
   zip_blank c lc (d ∷ ds) f =
       let F = L.field in
       cc (F.times_comm c 0 lc (zero_level A L), times_zero A L c lc, F.plus_zero d f.0, zip_blank c lc ds f.1)
 
   -- a level times a unit word, and what has zeros up to there, digit by digit
-  zip_unit : (m d : ℕ) (ds : List ℕ) → d < A.s → All (λ d. d < A.s) ds →
+  zip_unit : (m d : ℕ) (ds : List ℕ) → d < A.s → AllByRecursion (λ d. d < A.s) ds →
       zip_with A.plus (map (A.times d) (replicate m 0 ++ 1 ∷ replicate (length ds) 0)) (replicate (suc m) 0 ++ ds) ≡ replicate m 0 ++ d ∷ ds
   zip_unit zero d ds ld f =
       let F = L.field in
@@ -58,7 +59,7 @@ module _ (A : Arithmetic) (L : Lawful A) where
 
 module _ (A : Arithmetic) (L : Lawful A) (n : ℕ) (low : 1 ≤ n) (high : n ≤ 32) where
   -- a list of digits behind zeros is a sum of multiples of the unit words of its places
-  behind_zeros : (m : ℕ) (ds : List ℕ) → m + length ds ≡ n → All (λ d. d < A.s) ds → Generates A n (units A m (length ds)) (code A (replicate m 0 ++ ds))
+  behind_zeros : (m : ℕ) (ds : List ℕ) → m + length ds ≡ n → AllByRecursion (λ d. d < A.s) ds → Generates A n (units A m (length ds)) (code A (replicate m 0 ++ ds))
   behind_zeros m [] e f = rw (append-nil, code_blank A m) (generates_zero A L n (vector_space A L n low high) [])
   behind_zeros m (d ∷ ds) e f =
       let us : List ℕ = replicate m 0 ++ 1 ∷ replicate (length ds) 0 in

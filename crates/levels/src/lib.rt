@@ -1,4 +1,6 @@
 // The arithmetic of levels, words, and what a list of words generates.
+#![tactic(auto)]
+
 pub mod arithmetic;
 pub mod basis;
 pub mod number;

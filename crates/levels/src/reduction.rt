@@ -1,5 +1,5 @@
 // Reduction of words by the rows of a basis.
-ghost use Rattle.std.specs.Prelude.{◌≡◌, ◌≤◌, [], length, Decides};
+ghost use Rattle.std.specs.Prelude.{◌≡◌, ◌≤◌, [], length, take, drop, Decides};
 ghost use Rattle.levels.specs.Space.{Word};
 ghost use Rattle.levels.specs.Generated.{Generates};
 ghost use Rattle.levels.specs.Basis.{Echelon, LeastAlias};
@@ -31,6 +31,15 @@ impl Basis {
         ensures few { result ≤ 32 }
     {
         self.len
+    }
+
+    // The first rows, at most so many, and the others.
+    pub fn split(&self, at: usize) -> (&[u64], &[u64])
+        ensures first { result.0.now ≡ take at (basis_rows self.now) }
+        ensures others { result.1.now ≡ drop at (basis_rows self.now) }
+    {
+        let rows = self.rows();
+        rows.split_at(at.min(rows.len()))
     }
 
     // What is left of a word by multiples of the rows: code 0 exactly if they generate it.

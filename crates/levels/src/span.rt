@@ -11,8 +11,8 @@ use crate::number::Number;
 // How many sums are listed at once.
 pub const LEAVES: usize = 64;
 
-// A word has at most 32 factors, so it has one of 33 lengths.
-pub const LENGTHS: usize = 33;
+// A code of 64 bits has at most 64 digits, so it has one of 65 lengths.
+pub const LENGTHS: usize = 65;
 
 // How many words there are of each length.
 pub type Tally = [u64; LENGTHS];
@@ -20,7 +20,7 @@ pub type Tally = [u64; LENGTHS];
 // Counts, by length, the sums of a start and the multiples of words: one for each choice of levels.
 // All counts are 0 where the start is illegal.
 pub fn tally<L: Levels>(n: u8, words: &[u64], start: u64) -> Tally
-    ensures { (i : ℕ) → i < 33 → slice_index result i ≡ tallied L.Levels.model n words.now start i }
+    ensures { (i : ℕ) → i < 65 → slice_index result i ≡ tallied L.Levels.model n words.now start i }
 {
     let mut counts = [0; LENGTHS];
     if L::legal(n, start) {
@@ -94,7 +94,7 @@ fn spread<L: Levels>(n: u8, word: u64, leaves: &mut [u64; LEAVES], width: usize)
 fn count<L: Levels>(n: u8, words: &[u64], leaves: &[u64], start: u64, counts: &mut Tally)
     requires start { Word L.Levels.model n start }
     requires legal { AllWords L.Levels.model n leaves.now }
-    requires fit { (i : ℕ) → i < 33 → slice_index counts.old i < 2 ^ 64 }
+    requires fit { (i : ℕ) → i < 65 → slice_index counts.old i < 2 ^ 64 }
     ensures { Adds L.Levels.model (map (word_sum L.Levels.model n start) (with_all_multiples L.Levels.model n words.now leaves.now)) counts.old counts.new }
 {
     match words {

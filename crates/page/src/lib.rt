@@ -1,4 +1,6 @@
 // The trial page of a settled plan.
+#![tactic(auto)]
+
 ghost use Rattle.std.specs.Prelude.{◌≡◌, ◌≤◌, length};
 ghost use Rattle.contents.specs.Content.{Kept};
 ghost use Rattle.contents.specs.Held.{content_of};

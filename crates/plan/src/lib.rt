@@ -1,4 +1,6 @@
 // A trial plan: open to changes, or settled and ready to answer.
+#![tactic(auto)]
+
 pub mod answers;
 pub mod calls;
 pub mod choices;

@@ -1,4 +1,6 @@
 // The plan file: read into the content of a plan, and written from it.
+#![tactic(auto)]
+
 pub mod buffer;
 mod reading;
 mod writing;

@@ -220,7 +220,7 @@ tallies_from A n ws w r k size each =
     ext_get_or 0 r (tallies A n ws w 0 k) (size ∙ sym (tallies_length A n ws w 0 k))
     (λ i l. let below : i < k = omega arith in each i below ∙ ap (tallied A n ws w) (sym (zero-add i)) ∙ sym (tallies_at A n ws w 0 k i below))
 
--- the verdict by tallies of 33 lengths is that of least aberration, where it has anything to judge
+-- the verdict by tallies of 65 lengths is that of least aberration, where it has anything to judge
 pub tallies_verdict : (A : Arithmetic) → Lawful A → (n : ℕ) (ws : List ℕ) (a b : ℕ) → (fair A n ws && (legal A n a && legal A n b)) ≡ true →
     verdict_of (no_more (all_tallies A n ws a) (all_tallies A n ws b)) (no_more (all_tallies A n ws b) (all_tallies A n ws a)) ≡ verdict A (least_aberration A) n ws a b
 unfolding all_tallies
@@ -229,9 +229,9 @@ tallies_verdict A lawful n ws a b h =
     let q = and_parts (legal A n a) (legal A n b) p.1 in
     let range = word_legal A n a q.0 in
     let high = range.high in
-    let there = tallies_order A lawful n ws p.0 a b q.0 q.1 33 (omega arith) in
-    let back = tallies_order A lawful n ws p.0 b a q.1 q.0 33 (omega arith) in
-    ap (λ t. verdict_of t (no_more (tallies A n ws b 0 33) (tallies A n ws a 0 33))) there
+    let there = tallies_order A lawful n ws p.0 a b q.0 q.1 65 (omega arith) in
+    let back = tallies_order A lawful n ws p.0 b a q.1 q.0 65 (omega arith) in
+    ap (λ t. verdict_of t (no_more (tallies A n ws b 0 65) (tallies A n ws a 0 65))) there
     ∙ ap (verdict_of (least_aberration A n ws a b)) back
     ∙ sym (cond-true (fair A n ws && (legal A n a && legal A n b)) (verdict_of (least_aberration A n ws a b) (least_aberration A n ws b a)) Equal h)
 

@@ -1,4 +1,6 @@
 // Preferences between words: which of two is better, given the words of a base list.
+#![tactic(auto)]
+
 pub mod aberration;
 pub mod cheapest;
 pub mod preference;

@@ -1,4 +1,6 @@
 // Plan files, calls and preferences with what they give: printed, and compared with the file `stdout` of this crate.
+#![tactic(auto)]
+
 use calls::{aliases, generators, limits, three_factors};
 use history::trial_page;
 use std::io;

@@ -1,4 +1,6 @@
 // Reads a plan file from standard input, and prints its trial page, or one line with the number of the refusal.
+#![tactic(auto)]
+
 use history::trial_page;
 use std::io;
 use std::io::{Read, Write};

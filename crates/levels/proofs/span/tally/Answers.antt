@@ -12,7 +12,7 @@ count-requires g c =
       start = start;
       legal = front_words g.L.Levels.model g.met.L.Levels.lawful c.args.n c.args.words.now c.list-sums-before.new.sums c.list-sums-before.result.0 c.list-sums-before.result.1
           c.args.start start c.list-sums-before.ensures.sums;
-      fit = λ i l. let z : get_or (replicate 33 0) i 0 ≡ 0 = get_or-replicate 33 i 0 0 l in subst (λ k. k < 2 ^ 64) (sym z) (omega arith);
+      fit = λ i l. let z : get_or (replicate 65 0) i 0 ≡ 0 = get_or-replicate 65 i 0 0 l in subst (λ k. k < 2 ^ 64) (sym z) (omega arith);
     }
 
 -- all aliases are counted
@@ -24,9 +24,9 @@ returns-then-legal g c =
     let words = c.args.words.now in
     let all = all_aliases A L n words c.list-sums-before.new.sums c.list-sums-before.result.0 c.list-sums-before.result.1 c.args.start c.list-sums-before.ensures.sums in
     tally_from A L n words c.args.start c.count.new.counts (sym c.if-legal.ensures)
-    (subst (λ xs. Adds A xs (replicate 33 0) c.count.new.counts) all c.count.ensures)
+    (subst (λ xs. Adds A xs (replicate 65 0) c.count.new.counts) all c.count.ensures)
 
 -- nothing is counted for an illegal start
 pub returns-else-legal : goal.returns-else-legal
 returns-else-legal g c i l =
-    get_or-replicate 33 i 0 0 l ∙ no_tally g.L.Levels.model g.met.L.Levels.lawful c.args.n c.args.words.now c.args.start i (sym c.if-legal.ensures)
+    get_or-replicate 65 i 0 0 l ∙ no_tally g.L.Levels.model g.met.L.Levels.lawful c.args.n c.args.words.now c.args.start i (sym c.if-legal.ensures)

@@ -14,7 +14,7 @@ returns g c =
     let base = c.args.base.now in
     let both = c.tally-both.ensures.legal c.requires.first c.requires.second in
     let first : c.tally-both.new.firsts ≡ all_tallies A n base c.args.a =
-    tallies_from A n base c.args.a c.tally-both.new.firsts 33 (omega arith) (tally_from A L n base c.args.a c.tally-both.new.firsts c.requires.first both.0) in
+    tallies_from A n base c.args.a c.tally-both.new.firsts 65 (omega arith) (tally_from A L n base c.args.a c.tally-both.new.firsts c.requires.first both.0) in
     let second : c.tally-both.new.seconds ≡ all_tallies A n base c.args.b =
-    tallies_from A n base c.args.b c.tally-both.new.seconds 33 (omega arith) (tally_from A L n base c.args.b c.tally-both.new.seconds c.requires.second both.1) in
+    tallies_from A n base c.args.b c.tally-both.new.seconds 65 (omega arith) (tally_from A L n base c.args.b c.tally-both.new.seconds c.requires.second both.1) in
     c.first-difference.ensures ∙ same_verdict first second
