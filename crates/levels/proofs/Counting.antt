@@ -8,35 +8,35 @@ use Rattle.levels.specs.Generated.{each_below}
 use Rattle.levels.proofs.Linear.{Space, Is, Gen, Ind, gen_nil, gen_zero, gen_word, gen_more, gen_split, gen_without, solve, mul_word, mul_plus, mul_by_zero, ind_tail}
 use Rattle.levels.proofs.Places.{In, Distinct, in_map, in_map_from, in_each, in_each_from, length_each, in_or_not, distinct_map, distinct_each}
 
-module _ (S : Space) (all : List ℕ → List ℕ) (All-nil : all [] ≡ 0 ∷ []) (All-more : (w : ℕ) (ws : List ℕ) → all (w ∷ ws) ≡ each_below S.s (λ c. map (S.add (S.mul c w)) (all ws))) where
+module _ (S : Space) (all : List ℕ → List ℕ) (all_nil : all [] ≡ 0 ∷ []) (all_more : (w : ℕ) (ws : List ℕ) → all (w ∷ ws) ≡ each_below S.s (λ c. map (S.add (S.mul c w)) (all ws))) where
   -- the sums of multiples are s to the power of the number of words
   pub length_all : (ws : List ℕ) → length (all ws) ≡ S.s ^ length ws
-  length_all [] = rw All-nil (sym (pow-zero S.s))
+  length_all [] = rw all_nil (sym (pow-zero S.s))
   length_all (w ∷ ws) =
-      rw All-more
+      rw all_more
       (length_each S.s (S.s ^ length ws) (λ c. map (S.add (S.mul c w)) (all ws))
       (λ c. length-map (all ws) (S.add (S.mul c w)) ∙ length_all ws)
       ∙ mul_comm S.s (S.s ^ length ws) ∙ sym (pow-suc S.s (length ws)))
 
   -- every sum of multiples is generated
   pub all_gen : (ws : List ℕ) (w : ℕ) → In w (all ws) → Gen S ws w
-  all_gen [] w p = subst (Gen S []) (only p.0 (rw All-nil at p.1) (rw All-nil at p.2)) (gen_zero S [])
+  all_gen [] w p = subst (Gen S []) (only p.0 (rw all_nil at p.1) (rw all_nil at p.2)) (gen_zero S [])
     where
       only : (i : ℕ) → i < 1 → get_or (0 ∷ []) i 0 ≡ w → 0 ≡ w
       only zero l e = e
       only (suc i) l e = absurd (omega arith)
   all_gen (v ∷ ws) w p =
-      let q = in_each_from S.s (λ c. map (S.add (S.mul c v)) (all ws)) w (rw All-more at p) in
+      let q = in_each_from S.s (λ c. map (S.add (S.mul c v)) (all ws)) w (rw all_more at p) in
       let r = in_map_from (S.add (S.mul q.0 v)) (all ws) w q.2 in
       subst (Gen S (v ∷ ws)) (sym r.2) (gen_more S q.0 v ws r.0 (all_gen ws r.0 r.1))
 
   -- every generated word is one of the sums of multiples
   pub gen_all : (ws : List ℕ) (w : ℕ) → Gen S ws w → In w (all ws)
-  gen_all [] w g = rw (All-nil, gen_nil S w g) (0, omega arith, refl)
+  gen_all [] w g = rw (all_nil, gen_nil S w g) (0, omega arith, refl)
   gen_all (v ∷ ws) w g =
       let p = gen_split S v ws w g in
       let r = in_map (S.add (S.mul p.0 v)) (all ws) p.1 (gen_all ws p.1 p.3) in
-      rw (All-more, p.4) (in_each S.s (λ c. map (S.add (S.mul c v)) (all ws)) p.0 (S.add (S.mul p.0 v) p.1) p.2 r)
+      rw (all_more, p.4) (in_each S.s (λ c. map (S.add (S.mul c v)) (all ws)) p.0 (S.add (S.mul p.0 v) p.1) p.2 r)
 
   -- a list generates a word or not
   pub gen_or_not : (ws : List ℕ) (w : ℕ) → Gen S ws w ⊎ (Gen S ws w → ⊥)
@@ -96,9 +96,9 @@ module _ (S : Space) (all : List ℕ → List ℕ) (All-nil : all [] ≡ 0 ∷ [
 
   -- of an independent list of words no two sums of multiples are equal
   pub all_distinct : (ws : List ℕ) → Ind S ws → ((i : ℕ) → i < length ws → Is S (get_or ws i 0)) → Distinct (all ws)
-  all_distinct [] ind legal = rw All-nil (λ i j li lj e. omega arith)
+  all_distinct [] ind legal = rw all_nil (λ i j li lj e. omega arith)
   all_distinct (w ∷ ws) ind legal =
-      rw All-more (distinct_each S.s (λ c. map (S.add (S.mul c w)) (all ws))
+      rw all_more (distinct_each S.s (λ c. map (S.add (S.mul c w)) (all ws))
       (λ c l. distinct_map (S.add (S.mul c w)) (all ws)
       (all_distinct ws (ind_tail S w ws ind) (λ i li. legal (suc i) (omega arith)))
       (λ a b p q. cancel (S.mul c w) a b (mul_word S c w)

@@ -3,7 +3,7 @@ use Rattle.std.specs.List.{AllByRecursion}
 use Rattle.std.proofs.Common.{◌≡◌, ℕ, zero, suc, ◌*◌, ◌/◌, ◌%◌, ◌^◌, ◌<◌, ◌≤◌, true, ◌&&◌, ltb, leb, List, [], ◌∷◌, length, get_or, Decides, sym, refl, ap, ◌∙◌, add_comm, mul-zero, mul-suc, div-one, arith}
 use native.Mathlib.Nat.{mod-add-div'}
 use Rattle.std.proofs.lemmas.Nat.{pow_pos, pow-add, shr-shr, shr_below, shr_high, mod_low, mod_below, mul-add-lt}
-use Rattle.std.proofs.lemmas.Bool.Decides.{Decides-by_and, Decides-ltb}
+use Rattle.std.proofs.lemmas.Bool.Decides.{Decides-and, Decides-ltb}
 use Rattle.std.proofs.lemmas.Bool.{and_parts, and_from, lt-ltb, le-leb, leb-true, ltb-true}
 use Rattle.levels.specs.Arithmetic.{Arithmetic, Lawful}
 use Rattle.levels.specs.Words.{digits, code, all_levels, legal}
@@ -54,7 +54,8 @@ module _ (A : Arithmetic) where
 
   -- the test of levels says that each digit is below s
   pub levels_decide : (ds : List ℕ) → Decides (all_levels A ds) (AllByRecursion (λ d. d < A.s) ds)
-  levels_decide = Decides-by_and (λ d. ltb d A.s) (λ d. d < A.s) (all_levels A) (λ d. Decides-ltb d A.s) refl (λ _ _. refl)
+  levels_decide [] = (λ _. tt, λ _. refl)
+  levels_decide (d ∷ ds) = Decides-and (ltb d A.s) (all_levels A ds) (Decides-ltb d A.s) (levels_decide ds)
 
   -- what a legal code is: from 1 to 32 factors, no bit beyond them, every digit below s
   pub record Legal (n w : ℕ) : Type 0 where

@@ -17,12 +17,12 @@ use Rattle.levels.proofs.Any.{in_range_or_none, none_generates, any_combination,
 use Rattle.levels.proofs.Places.{In, in_map, in_map_from}
 use Rattle.levels.proofs.Ascending.{in_ascending, in_ascending_from, ascending_ascends, ascending_same, how_many_each, how_many_one, how_many_absent, how_many_same, how_many_moved, how_many_times}
 
-module _ (S : Space) (all : List ℕ → List ℕ) (All-nil : all [] ≡ 0 ∷ []) (All-more : (w : ℕ) (ws : List ℕ) → all (w ∷ ws) ≡ each_below S.s (λ c. map (S.add (S.mul c w)) (all ws))) where
+module _ (S : Space) (all : List ℕ → List ℕ) (all_nil : all [] ≡ 0 ∷ []) (all_more : (w : ℕ) (ws : List ℕ) → all (w ∷ ws) ≡ each_below S.s (λ c. map (S.add (S.mul c w)) (all ws))) where
   -- adding one word to all sums moves what is counted along
   moved : (ws : List ℕ) (d x : ℕ) → Is S d → Is S x → how_many (eqb (S.add d x)) (map (S.add d) (all ws)) ≡ how_many (eqb x) (all ws)
   moved ws d x wd wx =
       how_many_moved (S.add d) x (all ws)
-      (λ y p. cancel S all All-nil All-more d x y wd wx (gen_word S ws y (all_gen S all All-nil All-more ws y p)))
+      (λ y p. cancel S all all_nil all_more d x y wd wx (gen_word S ws y (all_gen S all all_nil all_more ws y p)))
 
   -- what is generated, less a multiple that is generated too
   less : (ws : List ℕ) (c w x : ℕ) → c < S.s → Gen S ws x → ((k : ℕ) → Gen S ws (S.mul k w)) → (b : ℕ) × Gen S ws b × (S.add (S.mul c w) b ≡ x)
@@ -44,7 +44,7 @@ module _ (S : Space) (all : List ℕ → List ℕ) (All-nil : all [] ≡ 0 ∷ [
   often_known w ws m gw h x g =
       let p = gen_split S w ws x g in
       let gx : Gen S ws x = subst (Gen S ws) (sym p.4) (gen_sum S ws (S.mul p.0 w) p.1 (gw p.0) p.3) in
-      ap (how_many (eqb x)) (All-more w ws)
+      ap (how_many (eqb x)) (all_more w ws)
       ∙ how_many_each (eqb x) m S.s (λ c. map (S.add (S.mul c w)) (all ws))
       (λ c lc. let b = less ws c w x lc gx gw in
       ap (λ v. how_many (eqb v) (map (S.add (S.mul c w)) (all ws))) (sym b.2)
@@ -56,24 +56,24 @@ module _ (S : Space) (all : List ℕ → List ℕ) (All-nil : all [] ≡ 0 ∷ [
       let p = gen_split S w ws x g in
       let d = p.0 in
       let b = p.1 in
-      ap (how_many (eqb x)) (All-more w ws)
+      ap (how_many (eqb x)) (all_more w ws)
       ∙ how_many_one (eqb x) S.s d (λ c. map (S.add (S.mul c w)) (all ws)) p.2
       (λ c lc ne. how_many_absent x (map (S.add (S.mul c w)) (all ws))
       (λ q. let r = in_map_from (S.add (S.mul c w)) (all ws) x q in
-      new (clash S all All-nil All-more ws w c d r.0 b ww lc p.2 (all_gen S all All-nil All-more ws r.0 r.1) p.3 (sym r.2 ∙ p.4) ne)))
+      new (clash S all all_nil all_more ws w c d r.0 b ww lc p.2 (all_gen S all all_nil all_more ws r.0 r.1) p.3 (sym r.2 ∙ p.4) ne)))
       ∙ ap (λ v. how_many (eqb v) (map (S.add (S.mul d w)) (all ws))) p.4
       ∙ moved ws (S.mul d w) b (mul_word S d w) (gen_word S ws b p.3) ∙ h b p.3
 
   -- every generated word stands equally often, and at least once, among all sums of multiples
   pub all_often : (ws : List ℕ) → (m : ℕ) × (0 < m) × Often ws m
-  all_often [] = (1, omega arith, λ x g. rw (All-nil, gen_nil S x g) refl)
+  all_often [] = (1, omega arith, λ x g. rw (all_nil, gen_nil S x g) refl)
   all_often (w ∷ ws) =
       let r = all_often ws in
       let m = r.0 in
       let known : ((k : ℕ) → Gen S ws (S.mul k w)) → (k : ℕ) × (0 < k) × Often (w ∷ ws) k =
       λ gw. (S.s * m, mul-pos (level_zero S) r.1, often_known w ws m gw r.2) in
       elim (cases_Bool (S.word w)) [
-        | inl t ↦ elim (gen_or_not S all All-nil All-more ws w) [
+        | inl t ↦ elim (gen_or_not S all all_nil all_more ws w) [
           | inl g ↦ known (λ k. gen_multiple S ws k w g)
           | inr n ↦ (m, r.1, often_fresh w ws m t n r.2)
         ]

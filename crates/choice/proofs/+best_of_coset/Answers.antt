@@ -21,12 +21,12 @@ loop-level-init g t c =
     let w = get_or rows 0 0 in
     let rest = take (length rows - 1) (drop 1 rows) in
     let at_least_lem = judged A (g.P.Preference.good c.args.preference.now) n c.args.base.now in
-    top_first at_least_lem (λ l. Coset A n rest (word_sum A n start (word_multiple A n l w))) c.best-of-coset-best.result
-    (subst (λ x. Top at_least_lem (Coset A n rest x) c.best-of-coset-best.result) (sym (start_again A g.met.L.Levels.lawful n w start c.requires.start)) c.best-of-coset-best.ensures)
+    top_first at_least_lem (λ l. Coset A n rest (word_sum A n start (word_multiple A n l w))) c.best_of_coset-best.result
+    (subst (λ x. Top at_least_lem (Coset A n rest x) c.best_of_coset-best.result) (sym (start_again A g.met.L.Levels.lawful n w start c.requires.start)) c.best_of_coset-best.ensures)
 
 -- the next start is a word
-pub best-of-coset-requires : goal.best-of-coset-requires
-best-of-coset-requires g t c κs within =
+pub best_of_coset-requires : goal.best_of_coset-requires
+best_of_coset-requires g t c κs within =
     let A = g.L.Levels.model in
     let L = g.met.L.Levels.lawful in
     let n = c.args.n in
@@ -58,11 +58,11 @@ loop-level-preserved g t c =
     let value : c.add-next.result ≡ word_sum A n start (word_multiple A n level w) =
     next_start A L n level w start c.product.result c.add-next.result c.requires.start c.product.ensures c.add-next.ensures in
     coset_more A L good (g.met.P.Preference.lawful c.args.preference.now) n base level w start c.add-next.result c.requires.start value rest
-    c.loop-level.best c.best-of-coset.result c.better-best.result c.better-best.ensures c.loop-level.invariant c.best-of-coset.ensures
+    c.loop-level.best c.best_of_coset.result c.better-best.result c.better-best.ensures c.loop-level.invariant c.best_of_coset.ensures
 
 -- the leaves are words, and there is one
-pub best-of-leaves-requires : goal.best-of-leaves-requires
-best-of-leaves-requires g t c =
+pub best_of_leaves-requires : goal.best_of_leaves-requires
+best_of_leaves-requires g t c =
     let A = g.L.Levels.model in
     let L = g.met.L.Levels.lawful in
     let n = c.args.n in
@@ -84,12 +84,12 @@ returns-then-before-eq0 g t c =
     let leaves = c.args.leaves.now in
     let V = space_at A L n start c.requires.start in
     let all : leaves ≡ combinations A n rows = c.requires.leaves ∙ ap (λ k. combinations A n (drop k rows)) c.if-before-eq0.true in
-    top_same (judged A (g.P.Preference.good c.args.preference.now) n c.args.base.now) (Below (length leaves) (Leaf A n leaves start)) (Coset A n rows start) c.best-of-leaves.result
-    (leaves_coset A L n V rows leaves start c.requires.start all) (coset_leaves A L n V rows leaves start c.requires.start all) c.best-of-leaves.ensures
+    top_same (judged A (g.P.Preference.good c.args.preference.now) n c.args.base.now) (Below (length leaves) (Leaf A n leaves start)) (Coset A n rows start) c.best_of_leaves.result
+    (leaves_coset A L n V rows leaves start c.requires.start all) (coset_leaves A L n V rows leaves start c.requires.start all) c.best_of_leaves.ensures
 
 -- the rows behind the first ones stay
-pub best-of-coset-best-requires : goal.best-of-coset-best-requires
-best-of-coset-best-requires g t c κs within =
+pub best_of_coset-best-requires : goal.best_of_coset-best-requires
+best_of_coset-best-requires g t c κs within =
     let A = g.L.Levels.model in
     let n = c.args.n in
     let rows = c.args.rows.now in

@@ -18,9 +18,9 @@ loop-i-init g c y h =
     omega (arith, c.len-i.ensures.count)
 
 -- the rows are words
-pub best-led-led-requires : goal.best-led-led-requires
-best-led-led-requires g c =
-    let echelon = subst (Echelon g.L.Levels.model c.args.n) (sym c.rows-rows.ensures) (c.admit-all.ensures.echelon c.requires) in
+pub best_led-led-requires : goal.best_led-led-requires
+best_led-led-requires g c =
+    let echelon = subst (Echelon g.L.Levels.model c.args.n) (sym c.rows-rows.ensures) (c.admit_all.ensures.echelon c.requires) in
     echelon.words c.loop-i.i c.loop-i-test.true
 
 -- one row more
@@ -33,11 +33,11 @@ loop-i-preserved g c =
     let rows = c.rows-rows.result.now in
     let i = c.loop-i.i in
     let k = length (basis_rows c.args.known.now) in
-    let echelon : Echelon A n rows = subst (Echelon A n) (sym c.rows-rows.ensures) (c.admit-all.ensures.echelon c.requires) in
+    let echelon : Echelon A n rows = subst (Echelon A n) (sym c.rows-rows.ensures) (c.admit_all.ensures.echelon c.requires) in
     led_row A g.met.L.Levels.lawful good (g.met.P.Preference.lawful c.args.preference.now) n base rows k i
     (omega (arith, c.loop-i.auto.i, c.len-i.ensures.count)) (echelon.words i c.loop-i-test.true)
-    c.loop-i.best c.either-best.result c.best-led-led.result c.either-best.ensures c.loop-i.invariant
-    (subst (λ us. Top (judged A good n base) (Led A n us (get_or rows i 0)) c.best-led-led.result) (ap (λ j. take j rows) (sub-zero i)) c.best-led-led.ensures)
+    c.loop-i.best c.either-best.result c.best_led-led.result c.either-best.ensures c.loop-i.invariant
+    (subst (λ us. Top (judged A good n base) (Led A n us (get_or rows i 0)) c.best_led-led.result) (ap (λ j. take j rows) (sub-zero i)) c.best_led-led.ensures)
 
 -- the best of the words led by added rows is the best fresh word
 pub returns : goal.returns
@@ -49,7 +49,7 @@ returns g c =
     let rows = c.rows-rows.result.now in
     let known = basis_rows c.args.known.now in
     let further = c.args.further.now in
-    let p = c.admit-all.ensures in
+    let p = c.admit_all.ensures in
     let more = p.grows.0 in
     let grown : rows ≡ known ++ more = c.rows-rows.ensures ∙ p.grows.1 in
     let within : length known ≤ length rows = omega (arith, ap length grown, length-append known more) in

@@ -8,33 +8,33 @@ use Rattle.choice.proofs.Sums.{led_first, led_more}
 use Rattle.choice.proofs.best_led.Goals as goal
 
 -- the sums are listed for all rows but the first ones
-pub best-of-coset-best-requires : goal.best-of-coset-best-requires
-best-of-coset-best-requires g c = record {
+pub best_of_coset-best-requires : goal.best_of_coset-best-requires
+best_of_coset-best-requires g c = record {
   start = c.requires;
-  before = c.list-sums-before.ensures.before;
-  leaves = ap (λ k. take k c.list-sums-before.new.sums) (sub-zero c.list-sums-before.result.1) ∙ c.list-sums-before.ensures.sums;
+  before = c.list_sums-before.ensures.before;
+  leaves = ap (λ k. take k c.list_sums-before.new.sums) (sub-zero c.list_sums-before.result.1) ∙ c.list_sums-before.ensures.sums;
 }
 
 -- level 1
 pub loop-level-init : goal.loop-level-init
 loop-level-init g c =
     led_first g.L.Levels.model g.met.L.Levels.lawful (g.P.Preference.good c.args.preference.now) (g.met.P.Preference.lawful c.args.preference.now) c.args.n c.args.base.now c.args.rows.now c.args.lead c.requires
-    c.best-of-coset-best.result c.best-of-coset-best.ensures
+    c.best_of_coset-best.result c.best_of_coset-best.ensures
 
 -- a multiple is a word
-pub best-of-coset-other-requires : goal.best-of-coset-other-requires
-best-of-coset-other-requires g c = record {
+pub best_of_coset-other-requires : goal.best_of_coset-other-requires
+best_of_coset-other-requires g c = record {
   start = subst (Word g.L.Levels.model c.args.n) (sym c.product-start.ensures) (multiple_legal g.L.Levels.model g.met.L.Levels.lawful c.args.n c.loop-level.level c.args.lead c.args.lead c.requires);
-  before = c.list-sums-before.ensures.before;
-  leaves = ap (λ k. take k c.list-sums-before.new.sums) (sub-zero c.list-sums-before.result.1) ∙ c.list-sums-before.ensures.sums;
+  before = c.list_sums-before.ensures.before;
+  leaves = ap (λ k. take k c.list_sums-before.new.sums) (sub-zero c.list_sums-before.result.1) ∙ c.list_sums-before.ensures.sums;
 }
 
 -- one level more
 pub loop-level-preserved : goal.loop-level-preserved
 loop-level-preserved g c =
     led_more g.L.Levels.model g.met.L.Levels.lawful (g.P.Preference.good c.args.preference.now) (g.met.P.Preference.lawful c.args.preference.now) c.args.n c.args.base.now c.args.rows.now c.args.lead c.requires
-    c.loop-level.level c.loop-level.best c.product-start.result c.best-of-coset-other.result c.better-best.result
-    (omega (arith, c.loop-level.auto.level)) c.product-start.ensures c.better-best.ensures c.loop-level.invariant c.best-of-coset-other.ensures
+    c.loop-level.level c.loop-level.best c.product-start.result c.best_of_coset-other.result c.better-best.result
+    (omega (arith, c.loop-level.auto.level)) c.product-start.ensures c.better-best.ensures c.loop-level.invariant c.best_of_coset-other.ensures
 
 -- all levels
 pub returns : goal.returns

@@ -8,13 +8,13 @@ use Rattle.choice.proofs.choose.Goals as goal
 pub loop-init : goal.loop-init
 loop-init g c = (
   turn_first g.L.Levels.model g.met.L.Levels.lawful (g.P.Preference.good c.args.preference.now) c.args.n c.args.base.now c.args.further.now
-      (basis_rows c.new-known.result) (basis_rows c.admit-all.new.self) (chosen_words c.new-chosen.result) c.new-known.ensures c.admit-all.ensures c.new-chosen.ensures,
+      (basis_rows c.new-known.result) (basis_rows c.admit_all.new.self) (chosen_words c.new-chosen.result) c.new-known.ensures c.admit_all.ensures c.new-chosen.ensures,
   ap length c.new-chosen.ensures,
 )
 
 -- the rows stay in echelon form
-pub best-fresh-requires : goal.best-fresh-requires
-best-fresh-requires g c = c.loop.invariant.0.echelon
+pub best_fresh-requires : goal.best_fresh-requires
+best_fresh-requires g c = c.loop.invariant.0.echelon
 
 -- there is room for one more word
 pub push-requires : goal.push-requires

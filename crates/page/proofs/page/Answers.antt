@@ -7,7 +7,7 @@ use Rattle.page.proofs.page.Goals as goal
 
 pub returns : goal.returns
 returns g c =
-    let whole = c.as-slice.ensures ∙ c.printed.ensures in
+    let whole = c.as_slice.ensures ∙ c.printed.ensures in
     record {
       stored = c.store.ensures.stored ∙ ap (λ f. holding f c.args.memory.now) whole;
       count = c.store.ensures.count ∙ ap (λ f. wrote f c.args.memory.now) whole;

@@ -12,18 +12,18 @@ use Rattle.aliasing.proofs.Crowds.{pair-byte}
 use Rattle.aliasing.proofs.clear.clear.Goals as goal
 
 -- there are at most 528 short words
-pub reduce-all-requires : goal.reduce-all-requires
-reduce-all-requires c = omega (arith, c.list-short-len.ensures.count, short_most c.args.n c.if-n-gt32.false)
+pub reduce_all-requires : goal.reduce_all-requires
+reduce_all-requires c = omega (arith, c.list_short-len.ensures.count, short_most c.args.n c.if-n-gt32.false)
 
 -- the place is one of them
 pub alone-requires : goal.alone-requires
 alone-requires c =
-    (c.loop-place-test.true, omega (arith, c.list-short-len.ensures.count, short_most c.args.n c.if-n-gt32.false))
+    (c.loop-place-test.true, omega (arith, c.list_short-len.ensures.count, short_most c.args.n c.if-n-gt32.false))
 
 -- there are at most 496 pairs
 pub bounds-bytes-place : goal.bounds-bytes-place
 bounds-bytes-place c =
-    omega (arith, c.loop-place-test.true, c.list-short-len.ensures.count, short_length c.args.n, pairs_most c.args.n c.if-n-gt32.false)
+    omega (arith, c.loop-place-test.true, c.list_short-len.ensures.count, short_length c.args.n, pairs_most c.args.n c.if-n-gt32.false)
 
 -- one pair more
 pub loop-place-preserved : goal.loop-place-preserved
@@ -35,19 +35,19 @@ loop-place-preserved c =
     let inv = c.loop-place.invariant in
     let j = place - n in
     let byte = c.from.result in
-    let rows = basis_rows c.admit-all.new.self in
-    let count = c.list-short-len.ensures.count in
-    let p = c.admit-all.ensures in
+    let rows = basis_rows c.admit_all.new.self in
+    let count = c.list_short-len.ensures.count in
+    let p = c.admit_all.ensures in
     let b = from_none two lawful_two n ws rows (rw c.new-basis.ensures at p) in
     let at : place ≡ n + j = omega (arith, c.loop-place.auto.place) in
     let few = pairs_most n c.if-n-gt32.false in
     let lj : j < length (pairs n) = omega (arith, c.loop-place-test.true, short_length n) in
     let next : place + 1 - n ≡ j + 1 = omega arith in
-    let decides : Decides c.alone.result (Alone c.list-short-len.new.short c.reduce-all.new.least c.list-short-len.result (n + j)) =
-    subst (λ t. Decides c.alone.result (Alone c.list-short-len.new.short c.reduce-all.new.least c.list-short-len.result t)) at c.alone.ensures in
+    let decides : Decides c.alone.result (Alone c.list_short-len.new.short c.reduce_all.new.least c.list_short-len.result (n + j)) =
+    subst (λ t. Decides c.alone.result (Alone c.list_short-len.new.short c.reduce_all.new.least c.list_short-len.result t)) at c.alone.ensures in
     let value : byte ≡ clear_byte n ws (get_or (pairs n) j 0) =
     c.from.ensures ∙ byte_cond c.alone.result
-    ∙ pair-byte n c.if-n-gt32.false ws rows b.0 b.1 c.list-short-len.new.short c.reduce-all.new.least c.list-short-len.result count c.list-short-len.ensures.front c.reduce-all.ensures
+    ∙ pair-byte n c.if-n-gt32.false ws rows b.0 b.1 c.list_short-len.new.short c.reduce_all.new.least c.list_short-len.result count c.list_short-len.ensures.front c.reduce_all.ensures
     j lj c.alone.result decides in (
       ap (λ k. take k (set bytes j byte)) next
           ∙ take_more_set bytes j byte (omega (arith, inv.1))
@@ -59,23 +59,23 @@ loop-place-preserved c =
     )
 
 -- the letters are among the short words
-pub overflow-sub-result : goal.overflow-sub-result
-overflow-sub-result c = omega (arith, c.list-short-len.ensures.count, short_length c.args.n)
+pub overflow_sub-result : goal.overflow_sub-result
+overflow_sub-result c = omega (arith, c.list_short-len.ensures.count, short_length c.args.n)
 
 -- the pairs have room
-pub invariant-of-result-2 : goal.invariant-of-result-2
-invariant-of-result-2 c =
-    (omega (arith, c.list-short-len.ensures.count, short_length c.args.n, pairs_most c.args.n c.if-n-gt32.false), tt)
+pub invariant_of-result-2 : goal.invariant_of-result-2
+invariant_of-result-2 c =
+    (omega (arith, c.list_short-len.ensures.count, short_length c.args.n, pairs_most c.args.n c.if-n-gt32.false), tt)
 
 -- all pairs have their bytes
 pub returns : goal.returns
 returns c high =
     let n = c.args.n in
     let ws = c.args.words.now in
-    let k = c.list-short-len.result - n in
-    let whole : length (pairs n) ≤ k = omega (arith, c.list-short-len.ensures.count, short_length n) in
-    let end : c.loop-place.place ≡ c.list-short-len.result =
-    omega (arith, c.loop-place-test.false, c.loop-place.auto.place-end (omega (arith, c.list-short-len.ensures.count, short_length n))) in
+    let k = c.list_short-len.result - n in
+    let whole : length (pairs n) ≤ k = omega (arith, c.list_short-len.ensures.count, short_length n) in
+    let end : c.loop-place.place ≡ c.list_short-len.result =
+    omega (arith, c.loop-place-test.false, c.loop-place.auto.place-end (omega (arith, c.list_short-len.ensures.count, short_length n))) in
     ap (λ p. take (p - n) c.loop-place.bytes) (sym end)
     ∙ c.loop-place.invariant.0
     ∙ ap (λ p. map (clear_byte n ws) (take (p - n) (pairs n))) end

@@ -36,8 +36,8 @@ member-requires g t c κs within =
     search rules
 
 -- past the last alias over the larger rows there is nothing
-pub returns-in-err-start : goal.returns-in-err-start
-returns-in-err-start g t c e hw =
+pub returns-in_err-start : goal.returns-in_err-start
+returns-in_err-start g t c e hw =
     let A = g.L.Levels.model in
     let L = g.met.L.Levels.lawful in
     let n = c.args.n in
@@ -46,7 +46,7 @@ returns-in-err-start g t c e hw =
     let row = c.next-row.result in
     let split = above_next rows c.args.floor row c.next-row.ensures (omega (arith, c.next-row.ensures.low, c.if-row-floor.false)) in
     let levels : c.get-levels.result ≡ A.s = c.get-levels.ensures ∙ g.met.L.Levels.levels in
-    let past = c.in-err-start.ensures e hw in
+    let past = c.in_err-start.ensures e hw in
     rw c.from-residual.ensures
     (subst (λ us. Entry (alias_set A n us c.args.word) m None) (sym split)
     (entry_none A L n c.args.word hw row (above row rows) (subst (Ladder A n) split (rows-ladder A L n rows e c.args.floor)) m
@@ -64,8 +64,8 @@ returns g t c e hw =
     let split = above_next rows c.args.floor row c.next-row.ensures (omega (arith, c.next-row.ensures.low, c.if-row-floor.false)) in
     let ladder = subst (Ladder A n) split (rows-ladder A L n rows e c.args.floor) in
     let levels : c.get-levels.result ≡ A.s = c.get-levels.ensures ∙ g.met.L.Levels.levels in
-    let start = c.in-ok-start.start in
-    let at = c.in-ok-start.ensures e hw in
+    let start = c.in_ok-start.start in
+    let at = c.in_ok-start.ensures e hw in
     let within : m / A.s < length (alias_set A n (above row rows) c.args.word) = subst (λ s. m / s < length (alias_set A n (above row rows) c.args.word)) levels at.0 in
     let same : start ≡ get_or (alias_set A n (above row rows) c.args.word) (m / A.s) 0 = at.1 ∙ ap (λ s. get_or (alias_set A n (above row rows) c.args.word) (m / s) 0) levels in
     let word = alias-is-word A L n c.args.word hw (above row rows) start (m / A.s, within, sym same) in

@@ -19,8 +19,8 @@ returns g c =
     let n = c.args.n in
     let words = c.args.words.now in
     let w = c.args.word in
-    let rows = basis_rows c.admit-all.new.self in
-    let p = c.admit-all.ensures in
+    let rows = basis_rows c.admit_all.new.self in
+    let p = c.admit_all.ensures in
     let b = from_none A L n words rows (rw c.new-basis.ensures at p) in
     let entry : Word A n w → Entry (alias_set A n words w) c.args.m c.member.result = λ hw.
     subst (λ xs. Entry xs c.args.m c.member.result)

@@ -16,20 +16,20 @@ loop-p-init c = record {
 }
 
 -- an empty place is counted among the digits that are left
-pub overflow-sub-digits : goal.overflow-sub-digits
-overflow-sub-digits c = omega (arith, c.loop-p.invariant.left, empty_some c.args.table.now c.loop-p.p c.loop-p-test.true c.if-row-eq0.true)
+pub overflow_sub-digits : goal.overflow_sub-digits
+overflow_sub-digits c = omega (arith, c.loop-p.invariant.left, empty_some c.args.table.now c.loop-p.p c.loop-p-test.true c.if-row-eq0.true)
 
 -- at most 32 digits are left
 few_digits : (c : goal.Then-row-eq0) → c.loop-p.digits ≤ 32
 few_digits c = omega (arith, c.loop-p.invariant.left, empty_most c.args.table.now c.loop-p.p, c.loop-p.auto.p, c.requires.range)
 
 -- their number fits
-pub overflow-cast-one : goal.overflow-cast-one
-overflow-cast-one c = Fits-below {n = 32} tt (omega (arith, few_digits c))
+pub overflow_cast-one : goal.overflow_cast-one
+overflow_cast-one c = Fits-below {n = 32} tt (omega (arith, few_digits c))
 
 -- and is below the bits of a code
-pub overflow-shr-one : goal.overflow-shr-one
-overflow-shr-one c = omega (arith, few_digits c)
+pub overflow_shr-one : goal.overflow_shr-one
+overflow_shr-one c = omega (arith, few_digits c)
 
 -- level 1 at this factor
 pub loop-p-preserved-then-one : goal.loop-p-preserved-then-one

@@ -25,8 +25,8 @@ returns-then-m-free c =
     let low : 1 ≤ n = omega arith in
     let high : n ≤ 32 = omega arith in
     let T = filled n empty_table ws in
-    let free : c.free-factors-free.result ≡ empty_below T n = c.free-factors-free.ensures.count ∙ ap (λ t. empty_below t n) c.table-table.ensures in
-    let power = one_shl c.free-factors-free.result 64 (omega (arith, c.free-factors-free.ensures.few)) in
+    let free : c.free_factors-free.result ≡ empty_below T n = c.free_factors-free.ensures.count ∙ ap (λ t. empty_below t n) c.table-table.ensures in
+    let power = one_shl c.free_factors-free.result 64 (omega (arith, c.free_factors-free.ensures.few)) in
     let all = total n low high ws T (rows_of n low high ws) ∙ ap (λ k. 2 ^ k) (sym free) in
     record { found = omega (arith, all, power, c.if-m-free.true); total = λ low high. runs_total n low high ws; same = λ all x. runs_by_words n ws x all }
 

@@ -5,8 +5,8 @@ use Rattle.bindings.specs.Questions.{restarted}
 use Rattle.bindings.proofs.Acted.{change_refused}
 use Rattle.bindings.proofs.changes.start.Goals as goal
 
-pub returns-in-err-start : goal.returns-in-err-start
-returns-in-err-start g c =
+pub returns-in_err-start : goal.returns-in_err-start
+returns-in_err-start g c =
     let A = g.L.Levels.model in
-    let fact = change_refused (read_file A c.args.file.now) (restarted c.args.n) (content_of c.in-ok-plan.plan.held) (content_of c.start.new.self.held) _ c.in-ok-plan.ensures c.in-err-start.ensures in
+    let fact = change_refused (read_file A c.args.file.now) (restarted c.args.n) (content_of c.in_ok-plan.plan.held) (content_of c.start.new.self.held) _ c.in_ok-plan.ensures c.in_err-start.ensures in
     search rules

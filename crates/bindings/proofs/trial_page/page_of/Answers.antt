@@ -8,6 +8,6 @@ returns c =
     let f = c.args.file.now in
     let A = levels_of f in
     record {
-      count = paged_answer A (read_file A f) c.args.memory.now c.trial-page.new.memory c.trial-page.result c.trial-page.ensures;
-      stored = paged_left A (read_file A f) c.args.memory.now c.trial-page.new.memory c.trial-page.result c.trial-page.ensures;
+      count = paged_answer A (read_file A f) c.args.memory.now c.trial_page.new.memory c.trial_page.result c.trial_page.ensures;
+      stored = paged_left A (read_file A f) c.args.memory.now c.trial_page.new.memory c.trial_page.result c.trial_page.ensures;
     }

@@ -9,6 +9,6 @@ pub returns-in-Some : goal.returns-in-Some
 returns-in-Some g c =
     let A = g.L.Levels.model in
     let calls = map meant c.args.calls.now in
-    let left : option_map plan_content c.into-settled.result ≡ settled_content (after_all A calls new) =
-    c.into-settled.ensures ∙ ap settled_content (ap (option_map working_of) (sym c.in-Some.is) ∙ c.carry-out.ensures) in
-    record { content = left; whatever_the_calls = whatever_was_left A g.met.L.Levels.lawful calls (option_map plan_content c.into-settled.result) left }
+    let left : option_map plan_content c.into_settled.result ≡ settled_content (after_all A calls new) =
+    c.into_settled.ensures ∙ ap settled_content (ap (option_map working_of) (sym c.in-Some.is) ∙ c.carry_out.ensures) in
+    record { content = left; whatever_the_calls = whatever_was_left A g.met.L.Levels.lawful calls (option_map plan_content c.into_settled.result) left }

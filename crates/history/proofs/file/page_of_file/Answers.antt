@@ -8,4 +8,4 @@ pub returns : goal.returns
 returns g c =
     let A = g.L.Levels.model in
     page_read A (read_file A c.args.file.now) (blank 1) (content_of c.new-plan.result.held) (content_of c.read.new.self.held)
-    c.args.memory.now c.page-after.new.memory c.in-Some.answer c.in-ok-read.ensures.acts c.in-Some.ensures
+    c.args.memory.now c.page_after.new.memory c.in-Some.answer c.in_ok-read.ensures.acts c.in-Some.ensures

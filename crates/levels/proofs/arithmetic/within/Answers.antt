@@ -17,7 +17,7 @@ none_beyond code k = elim (cases_lt code (2 ^ k)) [
 pub loop-i-preserved : goal.loop-i-preserved
 loop-i-preserved g c =
     let n = c.args.n in
-    let i = c.loop-i.-i in
+    let i = c.loop-i._i in
     let next : i * n + n ≡ (i + 1) * n = sym (ap (λ k. k * n) (add-one i) ∙ suc-mul i n) in
     ap (λ x. x / 2 ^ n) c.loop-i.invariant ∙ shr-shr c.args.code (i * n) n ∙ ap (λ k. c.args.code / 2 ^ k) next
 
@@ -27,7 +27,7 @@ returns g c =
     let n = c.args.n in
     let code = c.args.code in
     let bits = g.W.Number.value * n in
-    let all : c.loop-i.-i ≡ g.W.Number.value = omega (arith, c.loop-i-test.false, c.loop-i.auto.-i-end, c.get-width.ensures) in
+    let all : c.loop-i._i ≡ g.W.Number.value = omega (arith, c.loop-i-test.false, c.loop-i.auto._i-end, c.get-width.ensures) in
     let low : 1 ≤ n = omega arith in
     let high : n ≤ 32 = omega arith in
     let range : (leb 1 n && leb n 32) ≡ true = and_from (leb 1 n) (leb n 32) (le-leb 1 n low) (le-leb n 32 high) in

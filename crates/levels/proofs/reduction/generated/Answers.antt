@@ -14,8 +14,8 @@ returns-then-word-eq0 g c =
 pub returns-then-legal : goal.returns-then-legal
 returns-then-legal g c =
     let hw : Word g.L.Levels.model c.args.n c.args.word = cc in
-    let p = c.admit-all.ensures in
-    left_decides g.L.Levels.model g.met.L.Levels.lawful c.args.n c.args.words.now (basis_rows c.admit-all.new.self) c.args.word c.reduce.result
+    let p = c.admit_all.ensures in
+    left_decides g.L.Levels.model g.met.L.Levels.lawful c.args.n c.args.words.now (basis_rows c.admit_all.new.self) c.args.word c.reduce.result
     (rw c.new-basis.ensures at p) hw c.reduce.ensures
 
 -- an illegal code other than 0 is never generated

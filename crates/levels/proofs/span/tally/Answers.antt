@@ -10,8 +10,8 @@ count-requires g c =
     let start = sym c.if-legal.ensures in
     record {
       start = start;
-      legal = front_words g.L.Levels.model g.met.L.Levels.lawful c.args.n c.args.words.now c.list-sums-before.new.sums c.list-sums-before.result.0 c.list-sums-before.result.1
-          c.args.start start c.list-sums-before.ensures.sums;
+      legal = front_words g.L.Levels.model g.met.L.Levels.lawful c.args.n c.args.words.now c.list_sums-before.new.sums c.list_sums-before.result.0 c.list_sums-before.result.1
+          c.args.start start c.list_sums-before.ensures.sums;
       fit = λ i l. let z : get_or (replicate 65 0) i 0 ≡ 0 = get_or-replicate 65 i 0 0 l in subst (λ k. k < 2 ^ 64) (sym z) (omega arith);
     }
 
@@ -22,7 +22,7 @@ returns-then-legal g c =
     let L = g.met.L.Levels.lawful in
     let n = c.args.n in
     let words = c.args.words.now in
-    let all = all_aliases A L n words c.list-sums-before.new.sums c.list-sums-before.result.0 c.list-sums-before.result.1 c.args.start c.list-sums-before.ensures.sums in
+    let all = all_aliases A L n words c.list_sums-before.new.sums c.list_sums-before.result.0 c.list_sums-before.result.1 c.args.start c.list_sums-before.ensures.sums in
     tally_from A L n words c.args.start c.count.new.counts (sym c.if-legal.ensures)
     (subst (λ xs. Adds A xs (replicate 65 0) c.count.new.counts) all c.count.ensures)
 

@@ -11,8 +11,8 @@ count-requires g c =
     let start = sym c.if-legal.ensures in
     record {
       start = start;
-      legal = front_words g.L.Levels.model g.met.L.Levels.lawful c.args.n c.args.words.now c.list-sums-before.new.sums c.list-sums-before.result.0 c.list-sums-before.result.1
-          c.args.first start c.list-sums-before.ensures.sums;
+      legal = front_words g.L.Levels.model g.met.L.Levels.lawful c.args.n c.args.words.now c.list_sums-before.new.sums c.list_sums-before.result.0 c.list_sums-before.result.1
+          c.args.first start c.list_sums-before.ensures.sums;
       fit = λ i l. search rules;
     }
 
@@ -22,8 +22,8 @@ count-requires-then-legal-2 g c =
     let start = sym c.if-legal-2.ensures in
     record {
       start = start;
-      legal = front_words g.L.Levels.model g.met.L.Levels.lawful c.args.n c.args.words.now c.list-sums-before.new.sums c.list-sums-before.result.0 c.list-sums-before.result.1
-          c.args.second start c.list-sums-before.ensures.sums;
+      legal = front_words g.L.Levels.model g.met.L.Levels.lawful c.args.n c.args.words.now c.list_sums-before.new.sums c.list_sums-before.result.0 c.list_sums-before.result.1
+          c.args.second start c.list_sums-before.ensures.sums;
       fit = λ i l. search rules;
     }
 
@@ -32,7 +32,7 @@ pub returns-then-legal-2 : goal.returns-then-legal-2
 returns-then-legal-2 g c =
     let A = g.L.Levels.model in
     let n = c.args.n in
-    let all = λ (x : ℕ). all_aliases A g.met.L.Levels.lawful n c.args.words.now c.list-sums-before.new.sums c.list-sums-before.result.0 c.list-sums-before.result.1 x c.list-sums-before.ensures.sums in
+    let all = λ (x : ℕ). all_aliases A g.met.L.Levels.lawful n c.args.words.now c.list_sums-before.new.sums c.list_sums-before.result.0 c.list_sums-before.result.1 x c.list_sums-before.ensures.sums in
     let first = sym c.if-legal.ensures in
     let second = sym c.if-legal-2.ensures in
     record {

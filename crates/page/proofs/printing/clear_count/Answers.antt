@@ -4,8 +4,8 @@ use Rattle.aliasing.specs.Clear.{clear_bytes, ones_in}
 use Rattle.page.proofs.Bounds.{clear_few}
 use Rattle.page.proofs.printing.clear_count.Goals as goal
 
-pub overflow-cast-result : goal.overflow-cast-result
-overflow-cast-result g c =
+pub overflow_cast-result : goal.overflow_cast-result
+overflow_cast-result g c =
     let held = c.args.plan.now.held in
     let n : c.factors.result ≤ 32 = omega (arith, c.factors.ensures, held.range.1) in
     let ones : c.ones.result ≡ ones_in (clear_bytes c.factors.result c.list.result.now) = c.ones.ensures ∙ ap ones_in (c.clear.ensures n) in

@@ -17,85 +17,85 @@ room g p =
     let A = g.L.Levels.model in
     omega (arith, page_length A (content_of p), page_fits A g.met.L.Levels.lawful (content_of p) p.range.1 p.few)
 
-pub print-head-requires : goal.print-head-requires
-print-head-requires g c = omega (arith, room g c.args.plan.now.held, ap length c.new-sheet.ensures)
+pub print_head-requires : goal.print_head-requires
+print_head-requires g c = omega (arith, room g c.args.plan.now.held, ap length c.new-sheet.ensures)
 
-pub print-resolution-requires : goal.print-resolution-requires
-print-resolution-requires g c =
+pub print_resolution-requires : goal.print_resolution-requires
+print_resolution-requires g c =
     let A = g.L.Levels.model in
     let p = content_of c.args.plan.now.held in
     omega (
       arith,
       room g c.args.plan.now.held,
       ap length c.new-sheet.ensures,
-      ap length c.print-head.ensures,
+      ap length c.print_head.ensures,
       length-append (written c.new-sheet.result) (head_line A p),
     )
 
-pub print-pattern-requires : goal.print-pattern-requires
-print-pattern-requires g c =
+pub print_pattern-requires : goal.print_pattern-requires
+print_pattern-requires g c =
     let A = g.L.Levels.model in
     let p = content_of c.args.plan.now.held in
     omega (
       arith,
       room g c.args.plan.now.held,
       ap length c.new-sheet.ensures,
-      ap length c.print-head.ensures,
+      ap length c.print_head.ensures,
       length-append (written c.new-sheet.result) (head_line A p),
-      ap length c.print-resolution.ensures,
-      length-append (written c.print-head.new.self) (resolution_line A p),
+      ap length c.print_resolution.ensures,
+      length-append (written c.print_head.new.self) (resolution_line A p),
     )
 
-pub print-generators-requires : goal.print-generators-requires
-print-generators-requires g c =
+pub print_generators-requires : goal.print_generators-requires
+print_generators-requires g c =
     let A = g.L.Levels.model in
     let p = content_of c.args.plan.now.held in
     omega (
       arith,
       room g c.args.plan.now.held,
       ap length c.new-sheet.ensures,
-      ap length c.print-head.ensures,
+      ap length c.print_head.ensures,
       length-append (written c.new-sheet.result) (head_line A p),
-      ap length c.print-resolution.ensures,
-      length-append (written c.print-head.new.self) (resolution_line A p),
-      ap length c.print-pattern.ensures,
-      length-append (written c.print-resolution.new.self) (pattern_line A p),
+      ap length c.print_resolution.ensures,
+      length-append (written c.print_head.new.self) (resolution_line A p),
+      ap length c.print_pattern.ensures,
+      length-append (written c.print_resolution.new.self) (pattern_line A p),
     )
 
-pub print-generators-requires-2 : goal.print-generators-requires-2
-print-generators-requires-2 g c =
+pub print_generators-requires-2 : goal.print_generators-requires-2
+print_generators-requires-2 g c =
     let A = g.L.Levels.model in
     let p = content_of c.args.plan.now.held in
     omega (
       arith,
       room g c.args.plan.now.held,
       ap length c.new-sheet.ensures,
-      ap length c.print-head.ensures,
+      ap length c.print_head.ensures,
       length-append (written c.new-sheet.result) (head_line A p),
-      ap length c.print-resolution.ensures,
-      length-append (written c.print-head.new.self) (resolution_line A p),
-      ap length c.print-pattern.ensures,
-      length-append (written c.print-resolution.new.self) (pattern_line A p),
-      ap length c.print-generators.ensures,
-      length-append (written c.print-pattern.new.self) (generators_line A (codes "defining") (shortest A) Defining p),
+      ap length c.print_resolution.ensures,
+      length-append (written c.print_head.new.self) (resolution_line A p),
+      ap length c.print_pattern.ensures,
+      length-append (written c.print_resolution.new.self) (pattern_line A p),
+      ap length c.print_generators.ensures,
+      length-append (written c.print_pattern.new.self) (generators_line A (codes "defining") (shortest A) Defining p),
     )
 
-pub print-clear-requires : goal.print-clear-requires
-print-clear-requires g c =
+pub print_clear-requires : goal.print_clear-requires
+print_clear-requires g c =
     let A = g.L.Levels.model in
     let p = content_of c.args.plan.now.held in
     omega (
       arith,
       room g c.args.plan.now.held,
       ap length c.new-sheet.ensures,
-      ap length c.print-head.ensures,
+      ap length c.print_head.ensures,
       length-append (written c.new-sheet.result) (head_line A p),
-      ap length c.print-resolution.ensures,
-      length-append (written c.print-head.new.self) (resolution_line A p),
-      ap length c.print-pattern.ensures,
-      length-append (written c.print-resolution.new.self) (pattern_line A p),
-      ap length c.print-generators.ensures,
-      length-append (written c.print-pattern.new.self) (generators_line A (codes "defining") (shortest A) Defining p),
-      ap length c.print-generators-2.ensures,
-      length-append (written c.print-generators.new.self) (generators_line A (codes "blocks") (least_aberration A) Block p),
+      ap length c.print_resolution.ensures,
+      length-append (written c.print_head.new.self) (resolution_line A p),
+      ap length c.print_pattern.ensures,
+      length-append (written c.print_resolution.new.self) (pattern_line A p),
+      ap length c.print_generators.ensures,
+      length-append (written c.print_pattern.new.self) (generators_line A (codes "defining") (shortest A) Defining p),
+      ap length c.print_generators-2.ensures,
+      length-append (written c.print_generators.new.self) (generators_line A (codes "blocks") (least_aberration A) Block p),
     )

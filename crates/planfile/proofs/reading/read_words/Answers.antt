@@ -17,22 +17,22 @@ begins n p low high e =
     let ok : started n ≡ Ok (blank n) = cond-true (leb 1 n && leb n 32) (Ok (blank n)) (Err Factors) (and_from (leb 1 n) (leb n 32) (le-leb 1 n low) (le-leb n 32 high)) in
     cc
 
-pub returns-in-err-admit-words-2 : goal.returns-in-err-admit-words-2
-returns-in-err-admit-words-2 g c =
+pub returns-in_err-admit_words-2 : goal.returns-in_err-admit_words-2
+returns-in_err-admit_words-2 g c =
     let A = g.L.Levels.model in
     let n = c.args.n in
     let d = c.args.defining in
     let b = c.args.block in
     let bs = c.args.bytes.now in
-    let p = content_of c.admit-words.new.held in
-    let x = err_from_is_err_and c.from-residual-in-err-admit-words-2.result c.from-residual-in-err-admit-words-2.ensures.1 in
-    let begun = begins n (content_of c.in-ok-held.held) c.requires.low c.requires.high c.in-ok-held.ensures in
+    let p = content_of c.admit_words.new.held in
+    let x = err_from_is_err_and c.from-residual-in_err-admit_words-2.result c.from-residual-in_err-admit_words-2.ensures.1 in
+    let begun = begins n (content_of c.in_ok-held.held) c.requires.low c.requires.high c.in_ok-held.ensures in
     let first : admitted_all A Defining (words_in d bs) (blank n) ≡ Ok p =
-    ap (λ q. admitted_all A Defining (words_in d bs) q) (sym begun) ∙ sym c.admit-words.ensures
-    ∙ ap (λ v. ended v p) c.in-ok-admit-words.was in
+    ap (λ q. admitted_all A Defining (words_in d bs) q) (sym begun) ∙ sym c.admit_words.ensures
+    ∙ ap (λ v. ended v p) c.in_ok-admit_words.was in
     ap result_of (x.1 ∙ ap Err x.2)
-    ∙ sym (ap (λ v. ended v (content_of c.admit-words-2.new.held)) c.in-err-admit-words-2.was)
-    ∙ c.admit-words-2.ensures ∙ ap (λ zs. admitted_all A Block (words_in b zs) p) (take_rest bs (8 * d)) ∙ sym (words_onward A n d b bs p first)
+    ∙ sym (ap (λ v. ended v (content_of c.admit_words-2.new.held)) c.in_err-admit_words-2.was)
+    ∙ c.admit_words-2.ensures ∙ ap (λ zs. admitted_all A Block (words_in b zs) p) (take_rest bs (8 * d)) ∙ sym (words_onward A n d b bs p first)
 
 pub returns : goal.returns
 returns g c =
@@ -41,10 +41,10 @@ returns g c =
     let d = c.args.defining in
     let b = c.args.block in
     let bs = c.args.bytes.now in
-    let p = content_of c.admit-words.new.held in
-    let begun = begins n (content_of c.in-ok-held.held) c.requires.low c.requires.high c.in-ok-held.ensures in
+    let p = content_of c.admit_words.new.held in
+    let begun = begins n (content_of c.in_ok-held.held) c.requires.low c.requires.high c.in_ok-held.ensures in
     let first : admitted_all A Defining (words_in d bs) (blank n) ≡ Ok p =
-    ap (λ q. admitted_all A Defining (words_in d bs) q) (sym begun) ∙ sym c.admit-words.ensures
-    ∙ ap (λ v. ended v p) c.in-ok-admit-words.was in
-    sym (ap (λ v. ended v (content_of c.admit-words-2.new.held)) c.in-ok-admit-words-2.was)
-    ∙ c.admit-words-2.ensures ∙ ap (λ zs. admitted_all A Block (words_in b zs) p) (take_rest bs (8 * d)) ∙ sym (words_onward A n d b bs p first)
+    ap (λ q. admitted_all A Defining (words_in d bs) q) (sym begun) ∙ sym c.admit_words.ensures
+    ∙ ap (λ v. ended v p) c.in_ok-admit_words.was in
+    sym (ap (λ v. ended v (content_of c.admit_words-2.new.held)) c.in_ok-admit_words-2.was)
+    ∙ c.admit_words-2.ensures ∙ ap (λ zs. admitted_all A Block (words_in b zs) p) (take_rest bs (8 * d)) ∙ sym (words_onward A n d b bs p first)

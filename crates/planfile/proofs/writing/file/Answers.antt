@@ -6,8 +6,8 @@ use Rattle.planfile.specs.Written.{written}
 use Rattle.planfile.proofs.Coding.{length_word_bytes}
 use Rattle.planfile.proofs.writing.file.Goals as goal
 
-pub extend-words-requires-2 : goal.extend-words-requires-2
-extend-words-requires-2 g c =
+pub extend_words-requires-2 : goal.extend_words-requires-2
+extend_words-requires-2 g c =
     omega (
       arith,
       c.args.held.now.few,
@@ -15,11 +15,11 @@ extend-words-requires-2 g c =
       ap length c.extend.ensures,
       length-append (written c.new-file.result) c.head.result,
       ap length c.head.ensures,
-      ap length c.extend-words.ensures,
-      length-append (written c.extend.new.self) (word_bytes c.as-slice.result.now),
-      length_word_bytes c.as-slice.result.now,
-      ap length c.as-slice.ensures,
-      ap length c.as-slice-2.ensures,
+      ap length c.extend_words.ensures,
+      length-append (written c.extend.new.self) (word_bytes c.as_slice.result.now),
+      length_word_bytes c.as_slice.result.now,
+      ap length c.as_slice.ensures,
+      ap length c.as_slice-2.ensures,
       ap length c.list.ensures,
       ap length c.list-2.ensures,
     )

@@ -12,14 +12,14 @@ loop-i-preserved g c =
     let d = c.loop-i.left % 2 ^ g.L.Levels.model.bits in
     let here = get_or c.args.costs.now c.loop-i.i 0 in
     let small : here < 65536 = c.fits-costs c.loop-i.i in
-    let more : c.if-first-digit-ne0.total ≡ c.loop-i.total + cond (eqb d 0) 0 here =
-    elim c.if-first-digit-ne0.branch [
-      | then-first-digit-ne0 w ↦ counted d c.loop-i.total c.if-first-digit-ne0.total here (λ z. w.if-first-digit-ne0.true (c.first-digit.ensures ∙ z)) w.total-is
-      | else-first-digit-ne0 w ↦ skipped d c.loop-i.total c.if-first-digit-ne0.total here (sym c.first-digit.ensures ∙ w.if-first-digit-ne0.false) w.total-is
+    let more : c.if-first_digit-ne0.total ≡ c.loop-i.total + cond (eqb d 0) 0 here =
+    elim c.if-first_digit-ne0.branch [
+      | then-first-digit-ne0 w ↦ counted d c.loop-i.total c.if-first_digit-ne0.total here (λ z. w.if-first_digit-ne0.true (c.first_digit.ensures ∙ z)) w.total-is
+      | else-first-digit-ne0 w ↦ skipped d c.loop-i.total c.if-first_digit-ne0.total here (sym c.first_digit.ensures ∙ w.if-first_digit-ne0.false) w.total-is
     ] in
     let most : cond (eqb d 0) 0 here ≤ 65535 = cond_both (eqb d 0) 0 here (λ x. x ≤ 65535) (λ _. omega arith) (λ _. omega arith) in
     let whole = cost c.args.costs.now (digits g.L.Levels.model c.args.n c.args.word) in (
-      cost_turn g.L.Levels.model c.args.costs.now c.args.n c.loop-i.i c.loop-i.left c.other-digits-left.result c.loop-i.total c.if-first-digit-ne0.total whole (omega arith) (omega arith) c.other-digits-left.ensures more c.loop-i.invariant.0,
+      cost_turn g.L.Levels.model c.args.costs.now c.args.n c.loop-i.i c.loop-i.left c.other_digits-left.result c.loop-i.total c.if-first_digit-ne0.total whole (omega arith) (omega arith) c.other_digits-left.ensures more c.loop-i.invariant.0,
       omega arith,
     )
 

@@ -5,8 +5,8 @@ use Rattle.aliasing.proofs.Shorts.{ones_more}
 use Rattle.aliasing.proofs.clear.ClearPairs.ones.Goals as goal
 
 -- at most 496 bytes are added
-pub overflow-add-ones : goal.overflow-add-ones
-overflow-add-ones c =
+pub overflow_add-ones : goal.overflow_add-ones
+overflow_add-ones c =
     let self = c.args.self.now in
     let few : length c.bytes-byte-items.result.now ≤ 496 = omega (arith, ap length c.bytes-byte-items.ensures, length-take self.len self.bytes, self.few) in
     omega (arith, c.loop-byte.invariant.1)

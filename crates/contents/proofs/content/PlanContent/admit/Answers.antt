@@ -12,7 +12,7 @@ push-requires g c =
     let L = g.met.L.Levels.lawful in
     let p = content_of c.args.self.now in
     let w = c.args.word in
-    let a = admissible_ok A w p (sym c.admissible.ensures ∙ c.in-ok-admissible.was) in
+    let a = admissible_ok A w p (sym c.admissible.ensures ∙ c.in_ok-admissible.was) in
     record {
       room = omega (arith, a.room, limit_small A L);
       nonzero = fresh_positive A L p.factors (both p) w (not_generated A L p.factors (both p) w a.fresh);

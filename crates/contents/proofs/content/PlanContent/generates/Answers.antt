@@ -14,5 +14,5 @@ returns g c =
     let w = c.args.word in
     let all = both (content_of c.args.self.now) in
     same_from_decides c.generated.result (holds (generated A n all) w)
-    (subst (λ (zs : List ℕ). Decides c.generated.result (Generates A n zs w)) (c.as-slice.ensures ∙ c.together.ensures) c.generated.ensures)
+    (subst (λ (zs : List ℕ). Decides c.generated.result (Generates A n zs w)) (c.as_slice.ensures ∙ c.together.ensures) c.generated.ensures)
     (holds_decides A g.met.L.Levels.lawful n all w)

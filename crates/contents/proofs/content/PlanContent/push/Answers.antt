@@ -8,8 +8,8 @@ pub push-requires : goal.push-requires
 push-requires c =
     record { room = omega (arith, c.requires.room, length-append (listed c.args.self.now.defining) (listed c.args.self.now.block)); nonzero = c.requires.nonzero }
 
-pub invariant-of-self : goal.invariant-of-self
-invariant-of-self c = (
+pub invariant_of-self : goal.invariant_of-self
+invariant_of-self c = (
   c.args.self.now.range,
   (
     omega (
@@ -26,8 +26,8 @@ pub push-requires-in-Block : goal.push-requires-in-Block
 push-requires-in-Block c =
     record { room = omega (arith, c.requires.room, length-append (listed c.args.self.now.defining) (listed c.args.self.now.block)); nonzero = c.requires.nonzero }
 
-pub invariant-of-self-in-Block : goal.invariant-of-self-in-Block
-invariant-of-self-in-Block c = (
+pub invariant_of-self-in-Block : goal.invariant_of-self-in-Block
+invariant_of-self-in-Block c = (
   c.args.self.now.range,
   (
     omega (

@@ -10,10 +10,10 @@ push-requires c =
     let ds = listed c.args.self.now.defining in
     let bs = listed c.args.self.now.block in
     let i = c.loop-word.word-index in
-    let l : i < length bs = omega (arith, ap length c.as-slice-word-items.ensures) in
+    let l : i < length bs = omega (arith, ap length c.as_slice-word-items.ensures) in
     record {
       room = omega (arith, ap length c.loop-word.invariant, length-append ds (take i bs), length-take i bs);
-      nonzero = subst (λ (xs : List ℕ). 0 < get_or xs i 0) (sym c.as-slice-word-items.ensures) (listed_positive c.args.self.now.block i l);
+      nonzero = subst (λ (xs : List ℕ). 0 < get_or xs i 0) (sym c.as_slice-word-items.ensures) (listed_positive c.args.self.now.block i l);
     }
 
 pub loop-word-preserved : goal.loop-word-preserved
@@ -21,9 +21,9 @@ loop-word-preserved c =
     let ds = listed c.args.self.now.defining in
     let bs = listed c.args.self.now.block in
     let i = c.loop-word.word-index in
-    let l : i < length bs = omega (arith, ap length c.as-slice-word-items.ensures) in
-    c.push.ensures ∙ ap (λ us. us ++ get_or c.as-slice-word-items.result.now i 0 ∷ []) c.loop-word.invariant
-    ∙ ap (λ zs. (ds ++ take i bs) ++ get_or zs i 0 ∷ []) c.as-slice-word-items.ensures
+    let l : i < length bs = omega (arith, ap length c.as_slice-word-items.ensures) in
+    c.push.ensures ∙ ap (λ us. us ++ get_or c.as_slice-word-items.result.now i 0 ∷ []) c.loop-word.invariant
+    ∙ ap (λ zs. (ds ++ take i bs) ++ get_or zs i 0 ∷ []) c.as_slice-word-items.ensures
     ∙ append_assoc ds (take i bs) (get_or bs i 0 ∷ [])
     ∙ ap (λ us. ds ++ us) (sym (take_more bs i 0 l))
 
@@ -31,4 +31,4 @@ pub returns : goal.returns
 returns c =
     let bs = listed c.args.self.now.block in
     let i = c.loop-word.word-index in
-    c.loop-word.invariant ∙ ap (λ us. listed c.args.self.now.defining ++ us) (take_all i bs (omega (arith, ap length c.as-slice-word-items.ensures)))
+    c.loop-word.invariant ∙ ap (λ us. listed c.args.self.now.defining ++ us) (take_all i bs (omega (arith, ap length c.as_slice-word-items.ensures)))

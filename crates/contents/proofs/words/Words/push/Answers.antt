@@ -4,8 +4,8 @@ use Rattle.std.proofs.lemmas.List.{length-take, take_more_set}
 use Rattle.contents.proofs.Tables.{positive_more}
 use Rattle.contents.proofs.words.Words.push.Goals as goal
 
-pub invariant-of-self : goal.invariant-of-self
-invariant-of-self c =
+pub invariant_of-self : goal.invariant_of-self
+invariant_of-self c =
     let room : c.args.self.now.len < 16 = omega (arith, c.requires.room, length-take c.args.self.now.len c.args.self.now.words) in
     let within : c.args.self.now.len < length c.args.self.now.words = omega arith in
     (omega arith, (positive_more c.args.self.now.words c.args.self.now.len c.args.word within c.requires.nonzero c.args.self.now.nonzero, tt))

@@ -5,18 +5,18 @@ use Rattle.std.proofs.lemmas.List.{length-take}
 use Rattle.contents.proofs.Tables.{front_removed, positive_removed}
 use Rattle.contents.proofs.words.Words.remove.Goals as goal
 
-pub invariant-of-self : goal.invariant-of-self
-invariant-of-self c =
+pub invariant_of-self : goal.invariant_of-self
+invariant_of-self c =
     let xs = c.args.self.now.words in
     let n = c.args.self.now.len in
     let p = c.args.place in
     let lt : p < n = omega (arith, c.requires, length-take n xs) in
     let le : n ≤ length xs = omega arith in
-    (omega arith, (positive_removed xs p n (put_mid p (n - p) xs c.rotate-left.new.self) lt le (front_removed xs p n c.rotate-left.new.self lt le c.rotate-left.ensures.after) c.args.self.now.nonzero, tt))
+    (omega arith, (positive_removed xs p n (put_mid p (n - p) xs c.rotate_left.new.self) lt le (front_removed xs p n c.rotate_left.new.self lt le c.rotate_left.ensures.after) c.args.self.now.nonzero, tt))
 
 pub returns : goal.returns
 returns c =
     let xs = c.args.self.now.words in
     let n = c.args.self.now.len in
     let p = c.args.place in
-    front_removed xs p n c.rotate-left.new.self (omega (arith, c.requires, length-take n xs)) (omega arith) c.rotate-left.ensures.after
+    front_removed xs p n c.rotate_left.new.self (omega (arith, c.requires, length-take n xs)) (omega arith) c.rotate_left.ensures.after

@@ -23,8 +23,8 @@ returns-in-2 c =
     ∙ ap (λ l. word_multiple three c.args.n l c.args.word) (sym c.in-2.is)
 
 -- 0 times a word is 0, and so is what no level gives
-pub returns-in-default : goal.returns-in-default
-returns-in-default c =
+pub returns-in_default : goal.returns-in_default
+returns-in_default c =
     elim (cases_lt c.args.level 3) [
       | inl l ↦
           let z : 0 ≡ c.args.level = omega arith in

@@ -10,6 +10,6 @@ pub returns : goal.returns
 returns c =
     let n = c.args.self.now.held.factors in
     let run = subst (λ k. legal two k c.args.run ≡ true) c.factors-n.ensures (sym c.legal.ensures ∙ c.if-not-legal.false) in
-    let words = subst (λ k. all_legal two k c.args.words.now ≡ true) c.factors-n.ensures (sym c.all_legal.ensures ∙ c.if-not-all-legal.false) in
+    let words = subst (λ k. all_legal two k c.args.words.now ≡ true) c.factors-n.ensures (sym c.all_legal.ensures ∙ c.if-not-all_legal.false) in
     block_found c.args.run c.args.words.now (content_of c.args.self.now.held) c.block_number.result run c.if-words-gt16.false words
     (c.block_number.ensures n run (all_words two n c.args.words.now words) c.if-words-gt16.false)

@@ -7,7 +7,7 @@ use Rattle.plan.proofs.settled.SettledPlan.write.Goals as goal
 
 pub returns : goal.returns
 returns g c =
-    let file = c.as-slice.ensures ∙ c.file.ensures in
+    let file = c.as_slice.ensures ∙ c.file.ensures in
     record {
       stored = c.store.ensures.stored ∙ ap (λ f. holding f c.args.memory.now) file;
       count = c.store.ensures.count ∙ ap (λ f. wrote f c.args.memory.now) file;

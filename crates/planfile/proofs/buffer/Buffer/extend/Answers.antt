@@ -7,7 +7,7 @@ use Rattle.planfile.proofs.buffer.Buffer.extend.Goals as goal
 pub returns : goal.returns
 returns c =
     let b = c.args.self.now in
-    let ys = c.copy-from-slice.new.self in
+    let ys = c.copy_from_slice.new.self in
     take-put_mid b.len (b.len + length c.args.more.now - b.len) b.bytes ys (b.len + length c.args.more.now)
-    (ap (λ zs. b.len + length zs) (sym c.copy-from-slice.ensures.after)) (omega arith)
-    ∙ ap (λ zs. written b ++ zs) c.copy-from-slice.ensures.after
+    (ap (λ zs. b.len + length zs) (sym c.copy_from_slice.ensures.after)) (omega arith)
+    ∙ ap (λ zs. written b ++ zs) c.copy_from_slice.ensures.after

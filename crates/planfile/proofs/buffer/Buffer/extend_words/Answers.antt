@@ -17,7 +17,7 @@ extend-requires c =
       length-append (written c.args.self.now) (word_bytes (take i ws)),
       length_word_bytes (take i ws),
       length-take i ws,
-      ap length c.to-le-bytes.ensures,
+      ap length c.to_le_bytes.ensures,
       c.loop-word-test.true,
     )
 
@@ -26,7 +26,7 @@ loop-word-preserved c =
     let i = c.loop-word.word-index in
     let ws = c.args.words.now in
     let start = written c.args.self.now in
-    c.extend.ensures ∙ ap (λ zs. written c.loop-word.self ++ zs) (c.to-le-bytes.ensures ∙ sym (eight_bytes (get_or ws i 0)))
+    c.extend.ensures ∙ ap (λ zs. written c.loop-word.self ++ zs) (c.to_le_bytes.ensures ∙ sym (eight_bytes (get_or ws i 0)))
     ∙ ap (λ zs. zs ++ bytes 8 (get_or ws i 0)) c.loop-word.invariant
     ∙ append_assoc start (word_bytes (take i ws)) (bytes 8 (get_or ws i 0))
     ∙ ap (λ zs. start ++ zs) (sym (word_bytes_more ws i c.loop-word-test.true))
