@@ -1,8 +1,8 @@
 -- Lists of counts in the order of their first difference, and the counts of alias sets and of tallies.
-use Rattle.std.specs.Prelude.{◌≡◌, ℕ, zero, suc, ◌+◌, ◌-◌, ◌*◌, ◌%◌, ◌^◌, ◌<◌, ◌≤◌, true, false, cond, ◌&&◌, leb, ◌⊎◌, List, [], ◌∷◌, ◌++◌, map, length, ◌==◌, ◌≢◌, nat_eq, nat_le, nat_lt, slice_index, slice_index_or, refl}
-use Rattle.std.proofs.Common.{sym, ◌∙◌, ap, subst, inl, inr, arith, zero-add, add-zero, suc-add, mod-eq_of_lt}
+use Rattle.std.specs.Prelude.{◌≡◌, ℕ, zero, suc, ◌+◌, ◌-◌, ◌*◌, ◌%◌, ◌^◌, ◌<◌, ◌≤◌, Bool, true, false, cond, ◌&&◌, leb, ◌⊎◌, List, [], ◌∷◌, ◌++◌, map, length, take, drop, ◌==◌, ◌≢◌, nat_eq, nat_le, nat_lt, slice_index, slice_index_or, refl}
+use Rattle.std.proofs.Common.{sym, ◌∙◌, ap, subst, inl, inr, arith, zero-add, add-zero, suc-add, add-suc, mod-eq_of_lt}
 use Rattle.std.proofs.Math.Nat.{mul-lt-mul_of_pos_left, pow-le-pow_right}
-use Rattle.std.proofs.lemmas.List.{length-map, ext_get_or}
+use Rattle.std.proofs.lemmas.List.{length-map, ext_get_or, take_rest}
 use Rattle.std.proofs.lemmas.Bool.{cases_order, eq-eqb, ne_eqb, lt-ltb, le-ltb, le-leb, lt-leb, leb-true, cases_Bool, both_ways, and_parts, and_right, cond-true, cond-false}
 use Rattle.levels.specs.Arithmetic.{Arithmetic, Lawful}
 use Rattle.levels.specs.Words.{legal, code, digits, zip_with, word_sum, word_length}
@@ -249,16 +249,23 @@ differ_at (x ∷ xs) (y ∷ ys) zero lx ly same ne =
 differ_at (x ∷ xs) (y ∷ ys) (suc i) lx ly same ne =
     same_first x y xs ys (same 0 (omega arith)) ∙ differ_at xs ys i (omega arith) (omega arith) (λ k l. same (suc k) (omega arith)) ne
 
--- lists that do not differ are judged equal
-pub no_difference : (xs ys : List ℕ) → length xs ≡ length ys → ((k : ℕ) → k < length xs → slice_index xs k ≡ slice_index ys k) → Equal ≡ verdict_of (no_more xs ys) (no_more ys xs)
-no_difference xs ys size same =
-    let e : xs ≡ ys = ext_get_or 0 xs ys size same in
-    let s = no_more_same ys in
-    cc
+-- without counts there is no difference
+pub no_counts_verdict : (xs ys : List ℕ) → length xs < 1 → Equal ≡ verdict_of (no_more xs ys) (no_more ys xs)
+no_counts_verdict [] [] e = refl
+no_counts_verdict [] (y ∷ ys) e = refl
+no_counts_verdict (x ∷ xs) ys e = let wrong : ⊥ = omega arith in elim wrong [ ]
 
--- equal counts are judged alike
-pub same_verdict : {xs ys us vs : List ℕ} → xs ≡ us → ys ≡ vs → verdict_of (no_more xs ys) (no_more ys xs) ≡ verdict_of (no_more us vs) (no_more vs us)
-same_verdict e f = cc
+-- lists that begin with the same count are judged by the rest
+pub same_head_verdict : (xs ys : List ℕ) → 0 < length xs → 0 < length ys → slice_index xs 0 ≡ slice_index ys 0 →
+    verdict_of (no_more (take (length xs - 1) (drop 1 xs)) (take (length ys - 1) (drop 1 ys))) (no_more (take (length ys - 1) (drop 1 ys)) (take (length xs - 1) (drop 1 xs))) ≡ verdict_of (no_more xs ys) (no_more ys xs)
+same_head_verdict [] ys la lb e = let wrong : ⊥ = omega arith in elim wrong [ ]
+same_head_verdict (x ∷ xs) [] la lb e = let wrong : ⊥ = omega arith in elim wrong [ ]
+same_head_verdict (x ∷ xs) (y ∷ ys) la lb e =
+    let rx : take (length (x ∷ xs) - 1) (drop 1 (x ∷ xs)) ≡ xs = take_rest (x ∷ xs) 1 in
+    let ry : take (length (y ∷ ys) - 1) (drop 1 (y ∷ ys)) ≡ ys = take_rest (y ∷ ys) 1 in
+    let there = same_first x y xs ys e in
+    let back = same_first y x ys xs (sym e) in
+    cc
 
 -- at place j of the counts from length i on stands that of length i + j
 pub counts_at : (A : Arithmetic) (ws : List ℕ) (i k j : ℕ) → j < k → slice_index (length_counts A ws i k) j ≡ of_length A (i + j) ws

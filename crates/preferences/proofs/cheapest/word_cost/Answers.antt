@@ -4,7 +4,7 @@ use Rattle.levels.specs.Words.{digits}
 use Rattle.preferences.specs.Built.{cost}
 use Rattle.preferences.proofs.Points.{cost_turn, cost_past, counted, skipped}
 use Rattle.preferences.proofs.cheapest.word_cost.Goals as goal
-use Rattle.preferences.proofs.cheapest.word_cost.Goals.{then-first-digit-ne0, else-first-digit-ne0}
+use Rattle.preferences.proofs.cheapest.word_cost.Goals.{then-first_digit-ne0, else-first_digit-ne0}
 
 -- one factor less
 pub loop-i-preserved : goal.loop-i-preserved
@@ -14,8 +14,8 @@ loop-i-preserved g c =
     let small : here < 65536 = c.fits-costs c.loop-i.i in
     let more : c.if-first_digit-ne0.total ≡ c.loop-i.total + cond (eqb d 0) 0 here =
     elim c.if-first_digit-ne0.branch [
-      | then-first-digit-ne0 w ↦ counted d c.loop-i.total c.if-first_digit-ne0.total here (λ z. w.if-first_digit-ne0.true (c.first_digit.ensures ∙ z)) w.total-is
-      | else-first-digit-ne0 w ↦ skipped d c.loop-i.total c.if-first_digit-ne0.total here (sym c.first_digit.ensures ∙ w.if-first_digit-ne0.false) w.total-is
+      | then-first_digit-ne0 w ↦ counted d c.loop-i.total c.if-first_digit-ne0.total here (λ z. w.if-first_digit-ne0.true (c.first_digit.ensures ∙ z)) w.total-is
+      | else-first_digit-ne0 w ↦ skipped d c.loop-i.total c.if-first_digit-ne0.total here (sym c.first_digit.ensures ∙ w.if-first_digit-ne0.false) w.total-is
     ] in
     let most : cond (eqb d 0) 0 here ≤ 65535 = cond_both (eqb d 0) 0 here (λ x. x ≤ 65535) (λ _. omega arith) (λ _. omega arith) in
     let whole = cost c.args.costs.now (digits g.L.Levels.model c.args.n c.args.word) in (
