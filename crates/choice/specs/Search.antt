@@ -1,5 +1,5 @@
 -- What the search goes through, and what it finds.
-use Rattle.std.specs.Prelude.{◌≡◌, ℕ, ◌<◌, ◌≤◌, min, Bool, true, List, [], ◌∷◌, take, Some, None, Option, slice_index}
+use Rattle.std.specs.Prelude.{◌≡◌, ◌≢◌, ℕ, ◌<◌, ◌≤◌, min, Bool, true, List, [], ◌∷◌, take, Some, None, Option, slice_index}
 use Rattle.levels.specs.Arithmetic.{Arithmetic}
 use Rattle.levels.specs.Words.{word_sum, word_multiple}
 use Rattle.preferences.specs.Relation.{Relation}
@@ -34,6 +34,11 @@ Leaf A n leaves start k w = w ≡ word_sum A n start (slice_index leaves k)
 abbrev pub Coset : Arithmetic → ℕ → List ℕ → ℕ → ℕ → Type 0
 Coset A n [] start w = w ≡ start
 Coset A n (v ∷ vs) start w = Below A.s (λ c. Coset A n vs (word_sum A n start (word_multiple A n c v))) w
+
+-- w is a sum of a start, multiples of the extension and multiples of the rows, where the part without the rows is not 0
+abbrev pub Beyond : Arithmetic → ℕ → List ℕ → List ℕ → ℕ → ℕ → Type 0
+Beyond A n rows [] start w = (start ≢ 0) × Coset A n rows start w
+Beyond A n rows (v ∷ vs) start w = Below A.s (λ c. Beyond A n rows vs (word_sum A n start (word_multiple A n c v))) w
 
 -- w is led by a word: a sum of its multiple by a level other than 0 and multiples of the rows
 abbrev pub LedBy : Arithmetic → ℕ → List ℕ → ℕ → ℕ → ℕ → Type 0

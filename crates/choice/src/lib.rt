@@ -107,21 +107,34 @@ fn best_led<L: Levels, P: Preference<L>>(
     requires { Word L.Levels.model n lead }
     ensures { Top (judged L.Levels.model (P.Preference.good preference.now) n base.now) (Led L.Levels.model n rows.now lead) result }
 {
-    let mut sums = [0; LEAVES];
-    let (before, width) = list_sums::<L>(n, rows, &mut sums);
-    let leaves = &sums[0..width];
-    let mut best = best_of_coset::<L, P>(preference, n, base, rows, before, leaves, lead);
+    let mut best = best_of_coset::<L, P>(preference, n, base, rows, lead);
     for level in 2..L::LEVELS.get() {
         let start = L::product(n, level, lead);
-        let other = best_of_coset::<L, P>(preference, n, base, rows, before, leaves, start);
+        let other = best_of_coset::<L, P>(preference, n, base, rows, start);
         best = better::<L, P>(preference, n, base, best, other);
     }
     best
 }
 
+// The best word among the sums of a start and what the rows generate.
+fn best_of_coset<L: Levels, P: Preference<L>>(
+    preference: &P,
+    n: u8,
+    base: &[u64],
+    rows: &[u64],
+    start: u64,
+) -> u64
+    requires { Word L.Levels.model n start }
+    ensures { Top (judged L.Levels.model (P.Preference.good preference.now) n base.now) (Coset L.Levels.model n rows.now start) result }
+{
+    let mut sums = [0; LEAVES];
+    let (before, width) = list_sums::<L>(n, rows, &mut sums);
+    best_over_leaves::<L, P>(preference, n, base, rows, before, &sums[0..width], start)
+}
+
 // The best word among the sums of a start and what the rows generate. The leaves are all sums of multiples of the rows but
 // for the first ones.
-fn best_of_coset<L: Levels, P: Preference<L>>(
+fn best_over_leaves<L: Levels, P: Preference<L>>(
     preference: &P,
     n: u8,
     base: &[u64],
@@ -140,7 +153,7 @@ fn best_of_coset<L: Levels, P: Preference<L>>(
     }
     let word = rows[0];
     let rest = &rows[1..];
-    let mut best = best_of_coset::<L, P>(preference, n, base, rest, before - 1, leaves, start);
+    let mut best = best_over_leaves::<L, P>(preference, n, base, rest, before - 1, leaves, start);
     for level in 1..L::LEVELS.get() {
         let next = L::add(start, L::product(n, level, word));
         best = better::<L, P>(
@@ -148,7 +161,7 @@ fn best_of_coset<L: Levels, P: Preference<L>>(
             n,
             base,
             best,
-            best_of_coset::<L, P>(preference, n, base, rest, before - 1, leaves, next),
+            best_over_leaves::<L, P>(preference, n, base, rest, before - 1, leaves, next),
         );
     }
     best

@@ -1,19 +1,10 @@
-use Rattle.std.proofs.Common.{◌≡◌, ◌-◌, take, sym, ap, ◌∙◌, subst, arith}
-use native.Mathlib.Nat.{sub-zero}
+use Rattle.std.proofs.Common.{◌≡◌, sym, subst, arith}
 use Rattle.levels.specs.Space.{Word}
 use Rattle.levels.proofs.Leaves.{multiple_legal}
 use Rattle.preferences.specs.Relation.{judged}
 use Rattle.choice.specs.Search.{Below, LedBy, Top}
 use Rattle.choice.proofs.Sums.{led_first, led_more}
 use Rattle.choice.proofs.best_led.Goals as goal
-
--- the sums are listed for all rows but the first ones
-pub best_of_coset-best-requires : goal.best_of_coset-best-requires
-best_of_coset-best-requires g c = record {
-  start = c.requires;
-  before = c.list_sums-before.ensures.before;
-  leaves = ap (λ k. take k c.list_sums-before.new.sums) (sub-zero c.list_sums-before.result.1) ∙ c.list_sums-before.ensures.sums;
-}
 
 -- level 1
 pub loop-level-init : goal.loop-level-init
@@ -23,11 +14,7 @@ loop-level-init g c =
 
 -- a multiple is a word
 pub best_of_coset-other-requires : goal.best_of_coset-other-requires
-best_of_coset-other-requires g c = record {
-  start = subst (Word g.L.Levels.model c.args.n) (sym c.product-start.ensures) (multiple_legal g.L.Levels.model g.met.L.Levels.lawful c.args.n c.loop-level.level c.args.lead c.args.lead c.requires);
-  before = c.list_sums-before.ensures.before;
-  leaves = ap (λ k. take k c.list_sums-before.new.sums) (sub-zero c.list_sums-before.result.1) ∙ c.list_sums-before.ensures.sums;
-}
+best_of_coset-other-requires g c = subst (Word g.L.Levels.model c.args.n) (sym c.product-start.ensures) (multiple_legal g.L.Levels.model g.met.L.Levels.lawful c.args.n c.loop-level.level c.args.lead c.args.lead c.requires)
 
 -- one level more
 pub loop-level-preserved : goal.loop-level-preserved

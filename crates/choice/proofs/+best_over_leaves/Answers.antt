@@ -9,7 +9,7 @@ use Rattle.preferences.specs.Relation.{judged}
 use Rattle.choice.specs.Search.{Below, Coset, Leaf, Top}
 use Rattle.choice.proofs.Tops.{top_first, top_same}
 use Rattle.choice.proofs.Sums.{coset_more, next_start, start_again, leaves_coset, coset_leaves, leaves_some, rest_behind}
-use Rattle.choice.proofs.+best_of_coset.Goals as goal
+use Rattle.choice.proofs.+best_over_leaves.Goals as goal
 
 -- by level 0 the start stays
 pub loop-level-init : goal.loop-level-init
@@ -21,12 +21,12 @@ loop-level-init g t c =
     let w = get_or rows 0 0 in
     let rest = take (length rows - 1) (drop 1 rows) in
     let at_least_lem = judged A (g.P.Preference.good c.args.preference.now) n c.args.base.now in
-    top_first at_least_lem (λ l. Coset A n rest (word_sum A n start (word_multiple A n l w))) c.best_of_coset-best.result
-    (subst (λ x. Top at_least_lem (Coset A n rest x) c.best_of_coset-best.result) (sym (start_again A g.met.L.Levels.lawful n w start c.requires.start)) c.best_of_coset-best.ensures)
+    top_first at_least_lem (λ l. Coset A n rest (word_sum A n start (word_multiple A n l w))) c.best_over_leaves-best.result
+    (subst (λ x. Top at_least_lem (Coset A n rest x) c.best_over_leaves-best.result) (sym (start_again A g.met.L.Levels.lawful n w start c.requires.start)) c.best_over_leaves-best.ensures)
 
 -- the next start is a word
-pub best_of_coset-requires : goal.best_of_coset-requires
-best_of_coset-requires g t c κs within =
+pub best_over_leaves-requires : goal.best_over_leaves-requires
+best_over_leaves-requires g t c κs within =
     let A = g.L.Levels.model in
     let L = g.met.L.Levels.lawful in
     let n = c.args.n in
@@ -58,7 +58,7 @@ loop-level-preserved g t c =
     let value : c.add-next.result ≡ word_sum A n start (word_multiple A n level w) =
     next_start A L n level w start c.product.result c.add-next.result c.requires.start c.product.ensures c.add-next.ensures in
     coset_more A L good (g.met.P.Preference.lawful c.args.preference.now) n base level w start c.add-next.result c.requires.start value rest
-    c.loop-level.best c.best_of_coset.result c.better-best.result c.better-best.ensures c.loop-level.invariant c.best_of_coset.ensures
+    c.loop-level.best c.best_over_leaves.result c.better-best.result c.better-best.ensures c.loop-level.invariant c.best_over_leaves.ensures
 
 -- the leaves are words, and there is one
 pub best_of_leaves-requires : goal.best_of_leaves-requires
@@ -88,8 +88,8 @@ returns-then-before-eq0 g t c =
     (leaves_coset A L n V rows leaves start c.requires.start all) (coset_leaves A L n V rows leaves start c.requires.start all) c.best_of_leaves.ensures
 
 -- the rows behind the first ones stay
-pub best_of_coset-best-requires : goal.best_of_coset-best-requires
-best_of_coset-best-requires g t c κs within =
+pub best_over_leaves-best-requires : goal.best_over_leaves-best-requires
+best_over_leaves-best-requires g t c κs within =
     let A = g.L.Levels.model in
     let n = c.args.n in
     let rows = c.args.rows.now in

@@ -1,10 +1,10 @@
 use Rattle.levels.specs.Words.{word_sum, word_multiple}
 use Rattle.preferences.specs.Relation.{judged}
 use Rattle.choice.specs.Search.{Below, Coset, Top}
-use Rattle.choice.proofs.+best_of_coset.Given as goal
+use Rattle.choice.proofs.+best_over_leaves.Given as goal
 
-abbrev pub decreases-best_of_coset : goal.decreases-best_of_coset
-decreases-best_of_coset g l = l.before
+abbrev pub decreases-best_over_leaves : goal.decreases-best_over_leaves
+decreases-best_over_leaves g l = l.before
 
 -- the best so far is the best of the sums by the levels so far
 abbrev pub invariant-loop-level : goal.invariant-loop-level
