@@ -65,7 +65,7 @@ overflow_sub-result c = omega (arith, c.list_short-len.ensures.count, short_leng
 -- the pairs have room
 pub invariant_of-result-2 : goal.invariant_of-result-2
 invariant_of-result-2 c =
-    (omega (arith, c.list_short-len.ensures.count, short_length c.args.n, pairs_most c.args.n c.if-n-gt32.false), tt)
+    record { few = omega (arith, c.list_short-len.ensures.count, short_length c.args.n, pairs_most c.args.n c.if-n-gt32.false) }
 
 -- all pairs have their bytes
 pub returns : goal.returns

@@ -47,7 +47,7 @@ returns-in_err-start g t c e hw =
     let split = above_next rows c.args.floor row c.next-row.ensures (omega (arith, c.next-row.ensures.low, c.if-row-floor.false)) in
     let levels : c.get-levels.result ≡ A.s = c.get-levels.ensures ∙ g.met.L.Levels.levels in
     let past = c.in_err-start.ensures e hw in
-    rw c.from-residual.ensures
+    rw c.from_residual.ensures
     (subst (λ us. Entry (alias_set A n us c.args.word) m None) (sym split)
     (entry_none A L n c.args.word hw row (above row rows) (subst (Ladder A n) split (rows-ladder A L n rows e c.args.floor)) m
     (subst (λ s. length (alias_set A n (above row rows) c.args.word) ≤ m / s) levels past)))

@@ -5,13 +5,7 @@ use Rattle.contents.proofs.Tables.{length_removed_le}
 use Rattle.contents.proofs.content.PlanContent.remove.Goals as goal
 
 pub invariant_of-self : goal.invariant_of-self
-invariant_of-self c = (
-  c.args.self.now.range,
-  (omega (arith, ap length c.remove.ensures, length_removed_le (listed c.args.self.now.defining) c.args.place), tt),
-)
+invariant_of-self c = record { range = c.args.self.now.range; few = omega (arith, ap length c.remove.ensures, length_removed_le (listed c.args.self.now.defining) c.args.place) }
 
 pub invariant_of-self-in-Block : goal.invariant_of-self-in-Block
-invariant_of-self-in-Block c = (
-  c.args.self.now.range,
-  (omega (arith, ap length c.remove-in-Block.ensures, length_removed_le (listed c.args.self.now.block) c.args.place), tt),
-)
+invariant_of-self-in-Block c = record { range = c.args.self.now.range; few = omega (arith, ap length c.remove-in-Block.ensures, length_removed_le (listed c.args.self.now.block) c.args.place) }

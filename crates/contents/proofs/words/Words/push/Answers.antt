@@ -8,7 +8,7 @@ pub invariant_of-self : goal.invariant_of-self
 invariant_of-self c =
     let room : c.args.self.now.len < 16 = omega (arith, c.requires.room, length-take c.args.self.now.len c.args.self.now.words) in
     let within : c.args.self.now.len < length c.args.self.now.words = omega arith in
-    (omega arith, (positive_more c.args.self.now.words c.args.self.now.len c.args.word within c.requires.nonzero c.args.self.now.nonzero, tt))
+    record { few = omega arith; nonzero = positive_more c.args.self.now.words c.args.self.now.len c.args.word within c.requires.nonzero c.args.self.now.nonzero }
 
 pub returns : goal.returns
 returns c =

@@ -12,7 +12,7 @@ invariant_of-self c =
     let p = c.args.place in
     let lt : p < n = omega (arith, c.requires, length-take n xs) in
     let le : n ≤ length xs = omega arith in
-    (omega arith, (positive_removed xs p n (put_mid p (n - p) xs c.rotate_left.new.self) lt le (front_removed xs p n c.rotate_left.new.self lt le c.rotate_left.ensures.after) c.args.self.now.nonzero, tt))
+    record { few = omega arith; nonzero = positive_removed xs p n (put_mid p (n - p) xs c.rotate_left.new.self) lt le (front_removed xs p n c.rotate_left.new.self lt le c.rotate_left.ensures.after) c.args.self.now.nonzero }
 
 pub returns : goal.returns
 returns c =
