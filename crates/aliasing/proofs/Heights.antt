@@ -3,7 +3,7 @@ use Rattle.std.specs.List.{AllByRecursion}
 use Rattle.std.proofs.Common.{◌≡◌, ℕ, zero, suc, ◌+◌, ◌-◌, ◌*◌, ◌/◌, ◌%◌, ◌^◌, ◌<◌, ◌≤◌, ◌⊎◌, List, [], ◌∷◌, map, length, get_or, replicate, sym, refl, ap, ◌∙◌, subst, inl, inr, mul-le-mul_right, mod-eq_of_lt, mul_assoc, suc-mul, mul_comm, add_comm, one-mul, mul-zero, zero-mul, mul-suc, mul-add, div-mul-le_self, arith}
 use native.Mathlib.Nat.{div-eq_of_lt, lt-div-mul-add}
 use Rattle.std.proofs.lemmas.Nat.{pow_pos, pow-add, shr-shr, shr_high, mul-add-lt, div_below, le-div, mod_below}
-use Rattle.std.proofs.lemmas.List.Elements.{All-get_or}
+use Rattle.std.proofs.lemmas.List.Elements.{All-get_or, All-from_recursion}
 use Rattle.std.proofs.lemmas.List.{get_or-map}
 use Rattle.std.proofs.lemmas.Bool.{cases_lt, cases_order}
 use Rattle.levels.specs.Arithmetic.{Arithmetic, Lawful}
@@ -153,7 +153,7 @@ module _ (A : Arithmetic) (L : Lawful A) (n : ℕ) where
   digit_level : (k a : ℕ) → k < n → Word A n a → digit A k a < A.s
   digit_level k a l ha =
       subst (λ d. d < A.s) (digit_place A n a k l)
-      (All-get_or (λ d. d < A.s) (digits A n a) k 0 (omega (arith, digits_length A n a)) (word_legal A n a ha).levels)
+      (All-get_or (λ d. d < A.s) (digits A n a) k 0 (omega (arith, digits_length A n a)) (All-from_recursion (λ d. d < A.s) (digits A n a) (word_legal A n a ha).levels))
 
   -- the digit of a word and a multiple
   digit_sum : (k a c v : ℕ) → k < n → Word A n a → Word A n v → c < A.s →

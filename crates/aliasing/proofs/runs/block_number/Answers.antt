@@ -6,7 +6,7 @@ use Rattle.aliasing.specs.Table.{odd, block_bits}
 use Rattle.aliasing.proofs.Parity.{block_next, digit_fits, digit_kept, block_number_bits}
 use Rattle.aliasing.proofs.Evens.{word_below}
 use Rattle.aliasing.proofs.runs.block_number.Goals as goal
-use Rattle.aliasing.proofs.runs.block_number.Goals.{then-i-lt-BLOCK_WORDS+then-parity, else-i-lt-BLOCK_WORDS, else-i-lt-BLOCK_WORDS-via-then-i-lt-BLOCK_WORDS+else-parity, else-i-lt-BLOCK-WORDS-via-else-i-lt-BLOCK-WORDS}
+use Rattle.aliasing.proofs.runs.block_number.Goals.{then-i-lt-BLOCK_WORDS+then-parity, else-i-lt-BLOCK_WORDS, else-i-lt-BLOCK_WORDS-via-then-i-lt-BLOCK_WORDS+else-parity, else-i-lt-BLOCK_WORDS-via-else-i-lt-BLOCK_WORDS}
 
 -- no place beyond the list
 beyond : (i l : ℕ) → 16 ≤ i → i < l → l ≤ 16 → ⊥
@@ -20,24 +20,24 @@ loop-i-preserved c =
     let i = c.loop-i.i in
     let o = odd x (get_or ws i 0) in
     let number = c.loop-i.number in
-    let next : c.if-i-lt-BLOCK-WORDS.number ≡ number + o * 2 ^ i → length ws ≤ 16 →
-    c.if-i-lt-BLOCK-WORDS.number + block_bits x (drop (i + 1) ws) * 2 ^ (i + 1) ≡ block_bits x ws =
-    λ e few. block_next x ws i number c.if-i-lt-BLOCK-WORDS.number (block_bits x ws) c.loop-i-test.true e (c.loop-i.invariant.1 few) in
-    elim c.if-i-lt-BLOCK-WORDS.branch [
+    let next : c.if-i-lt-BLOCK_WORDS.number ≡ number + o * 2 ^ i → length ws ≤ 16 →
+    c.if-i-lt-BLOCK_WORDS.number + block_bits x (drop (i + 1) ws) * 2 ^ (i + 1) ≡ block_bits x ws =
+    λ e few. block_next x ws i number c.if-i-lt-BLOCK_WORDS.number (block_bits x ws) c.loop-i-test.true e (c.loop-i.invariant.1 few) in
+    elim c.if-i-lt-BLOCK_WORDS.branch [
       | then-i-lt-BLOCK_WORDS+then-parity w ↦
           let one : o ≡ 1 = eqb-true o 1 (sym w.parity.ensures.bits ∙ w.if-parity.true) in
-          let now : c.if-i-lt-BLOCK-WORDS.number ≡ number + 2 ^ i = w.number-is ∙ ap (λ k. number + k) (one_shl i 32 (omega (arith, w.if-i-lt-BLOCK-WORDS.true))) in (
-            subst (λ k. k < 2 ^ min (i + 1) 16) (sym now) (digit_fits number i (omega (arith, w.if-i-lt-BLOCK-WORDS.true)) c.loop-i.invariant.0),
+          let now : c.if-i-lt-BLOCK_WORDS.number ≡ number + 2 ^ i = w.number-is ∙ ap (λ k. number + k) (one_shl i 32 (omega (arith, w.if-i-lt-BLOCK_WORDS.true))) in (
+            subst (λ k. k < 2 ^ min (i + 1) 16) (sym now) (digit_fits number i (omega (arith, w.if-i-lt-BLOCK_WORDS.true)) c.loop-i.invariant.0),
             next (now ∙ ap (λ k. number + k) (sym (ap (λ d. d * 2 ^ i) one ∙ one-mul (2 ^ i)))),
           )
       | else-i-lt-BLOCK_WORDS w ↦
           let same = w.number-is in (
             subst (λ k. k < 2 ^ min (i + 1) 16) (sym same) (digit_kept number i c.loop-i.invariant.0),
-            λ few. elim w.else-i-lt-BLOCK-WORDS.branch [
+            λ few. elim w.else-i-lt-BLOCK_WORDS.branch [
               | else-i-lt-BLOCK_WORDS-via-then-i-lt-BLOCK_WORDS+else-parity v ↦
                   let none : o ≡ 0 = omega (arith, eqb-false o 1 (sym v.parity.ensures.bits ∙ v.if-parity.false)) in
                   next (same ∙ sym (ap (λ d. number + d * 2 ^ i) none ∙ ap (λ k. number + k) (zero-mul (2 ^ i)) ∙ add-zero number)) few
-              | else-i-lt-BLOCK-WORDS-via-else-i-lt-BLOCK-WORDS v ↦ elim (beyond i (length ws) v.if-i-lt-BLOCK-WORDS.false c.loop-i-test.true few) [ ]
+              | else-i-lt-BLOCK_WORDS-via-else-i-lt-BLOCK_WORDS v ↦ elim (beyond i (length ws) v.if-i-lt-BLOCK_WORDS.false c.loop-i-test.true few) [ ]
             ],
           )
     ]
