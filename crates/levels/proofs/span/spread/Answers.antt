@@ -1,4 +1,4 @@
-use Rattle.std.proofs.Common.{◌≡◌, ◌+◌, ◌*◌, ◌<◌, ◌≤◌, [], ◌∷◌, ◌++◌, map, get_or, take, sym, refl, ap, ◌∙◌, subst, add-zero, mul-le-mul_left, mul-one, mul-suc, add-one, arith, rules}
+use Rattle.std.proofs.Common.{◌≡◌, ◌*◌, ◌<◌, ◌≤◌, [], ◌∷◌, ◌++◌, map, get_or, take, sym, refl, ap, ◌∙◌, subst, add-zero, mul-le-mul_left, mul-one, mul-suc, add-one, arith, rules}
 use Rattle.std.proofs.lemmas.List.{append-nil, append_assoc, take_more_set, take-set-le, length-set, map_more}
 use Rattle.levels.specs.Words.{word_sum, code_sum}
 use Rattle.levels.specs.Space.{Word}

@@ -1,4 +1,4 @@
-use Rattle.std.proofs.Common.{◌≡◌, ◌<◌, length, ◌∙◌, rules}
+use Rattle.std.proofs.Common.{◌<◌, length, ◌∙◌, rules}
 use Rattle.preferences.specs.Counts.{same_head_verdict, no_counts_verdict}
 use Rattle.preferences.proofs.aberration.+first_difference.Goals as goal
 

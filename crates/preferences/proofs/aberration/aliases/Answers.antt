@@ -1,5 +1,5 @@
 use Rattle.std.proofs.Common.{arith}
-use Rattle.preferences.specs.Built.{all_tallies, tallies}
+use Rattle.preferences.specs.Built.{all_tallies}
 use Rattle.preferences.specs.Counts.{tallies_from}
 use Rattle.preferences.proofs.aberration.aliases.Goals as goal
 
