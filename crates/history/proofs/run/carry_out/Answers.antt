@@ -8,7 +8,7 @@ use Rattle.history.proofs.run.carry_out.Goals as goal
 pub returns-in_err-trial : goal.returns-in_err-trial
 returns-in_err-trial g c =
     let inside : c.loop-call.call-index < length c.args.calls.now = omega (arith, c.loop-call-test.true) in
-    ap (option_map working_of) c.from-residual.ensures
+    ap (option_map working_of) c.from_residual.ensures
     ∙ sym (carried_no_more g.L.Levels.model (working_of c.loop-call.trial) c.args.calls.now c.loop-call.call-index inside (sym c.in_err-trial.ensures))
     ∙ c.loop-call.invariant
 

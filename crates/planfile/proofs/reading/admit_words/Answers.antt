@@ -18,7 +18,7 @@ returns-in_err-admit g c =
     let p = content_of c.loop-i.held in
     let e = c.in_err-admit.field-0.0 in
     let rest : List ℕ = words_in (c.args.count - (i + 1)) (drop (8 * (i + 1)) bs) in
-    let x = err_from_is_err_and c.from-residual.result c.from-residual.ensures.1 in
+    let x = err_from_is_err_and c.from_residual.result c.from_residual.ensures.1 in
     let refused : admitted A side w p ≡ Err e =
     acts_refused (admitted A side w p) p (content_of c.admit.new.self) c.admit.result e c.admit.ensures c.in_err-admit.was in
     ap (λ v. ended v (content_of c.admit.new.self)) (x.1 ∙ ap Err x.2)

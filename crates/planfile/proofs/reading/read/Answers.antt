@@ -9,14 +9,14 @@ use Rattle.planfile.proofs.reading.read.Goals as goal
 
 pub returns-in_err-check_kind : goal.returns-in_err-check_kind
 returns-in_err-check_kind g c =
-    let x = err_from_is_err_and c.from-residual.result c.from-residual.ensures.1 in
+    let x = err_from_is_err_and c.from_residual.result c.from_residual.ensures.1 in
     let e = c.in_err-check_kind.field-0.0 in
     ap result_of (x.1 ∙ ap Err x.2)
     ∙ sym (read_other_kind g.L.Levels.model c.args.file.now e (sym c.check_kind.ensures ∙ c.in_err-check_kind.was))
 
 pub returns-in_err-check_size : goal.returns-in_err-check_size
 returns-in_err-check_size g c =
-    let x = err_from_is_err_and c.from-residual-in_err-check_size.result c.from-residual-in_err-check_size.ensures.1 in
+    let x = err_from_is_err_and c.from_residual-in_err-check_size.result c.from_residual-in_err-check_size.ensures.1 in
     let e = c.in_err-check_size.field-0.0 in
     ap result_of (x.1 ∙ ap Err x.2)
     ∙ sym (read_other_size g.L.Levels.model c.args.file.now e

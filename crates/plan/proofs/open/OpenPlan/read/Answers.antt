@@ -14,5 +14,5 @@ returns g c =
     let ok : read_file A f ≡ Ok q = sym c.read.ensures ∙ ap result_of c.in_ok-self.was in
     record {
       acts = subst (λ r. Acts r (content_of c.args.self.now.held) q (Ok tt)) (sym ok) (refl, refl);
-      again = λ e. read_back A f q (λ i. omega (arith, c.type-inv.file i)) ok;
+      again = λ e. read_back A f q (λ i. omega (arith, c.type_inv.file i)) ok;
     }
