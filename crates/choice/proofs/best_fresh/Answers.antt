@@ -15,7 +15,7 @@ pub loop-i-init : goal.loop-i-init
 loop-i-init g c y h =
     let l = h.1 in
     let m = h.2.0 in
-    omega (arith, c.len-i.ensures.count)
+    omega arith
 
 -- the rows are words
 pub best_led-led-requires : goal.best_led-led-requires
@@ -35,7 +35,7 @@ loop-i-preserved g c =
     let k = length (basis_rows c.args.known.now) in
     let echelon : Echelon A n rows = subst (Echelon A n) (sym c.rows-rows.ensures) (c.admit_all.ensures.echelon c.requires) in
     led_row A g.met.L.Levels.lawful good (g.met.P.Preference.lawful c.args.preference.now) n base rows k i
-    (omega (arith, c.loop-i.auto.i, c.len-i.ensures.count)) (echelon.words i c.loop-i-test.true)
+    (omega (arith, c.loop-i.auto.i)) (echelon.words i c.loop-i-test.true)
     c.loop-i.best c.either-best.result c.best_led-led.result c.either-best.ensures c.loop-i.invariant
     (subst (λ us. Top (judged A good n base) (Led A n us (get_or rows i 0)) c.best_led-led.result) (ap (λ j. take j rows) (sub-zero i)) c.best_led-led.ensures)
 
@@ -54,7 +54,7 @@ returns g c =
     let grown : rows ≡ known ++ more = c.rows-rows.ensures ∙ p.grows.1 in
     let within : length known ≤ length rows = omega (arith, ap length grown, length-append known more) in
     let front : take (length known) rows ≡ known = ap (take (length known)) grown ∙ take_at known more (length known) refl in
-    let all : c.loop-i.i ≡ length rows = omega (arith, c.loop-i-test.false, c.loop-i.auto.i-end, c.len-i.ensures.count) in
+    let all : c.loop-i.i ≡ length rows = omega (arith, c.loop-i-test.false, c.loop-i.auto.i-end) in
     found A g.met.L.Levels.lawful n (judged A good n base) (judged_order A good (g.met.P.Preference.lawful c.args.preference.now) n base) known further rows (length known) within front
     (subst (Echelon A n) (sym c.rows-rows.ensures) (p.echelon c.requires))
     (subst (λ us. SameWords A n us (known ++ further)) (sym c.rows-rows.ensures) (p.same c.requires))

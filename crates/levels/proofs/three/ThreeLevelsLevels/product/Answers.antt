@@ -17,10 +17,10 @@ returns-in-1 c =
 pub returns-in-2 : goal.returns-in-2
 returns-in-2 c =
     let h = sym c.if-not-legal.ensures in
-    c.add.ensures
-    ∙ sym (sum_code three lawful_three c.args.n c.args.word c.args.word h h)
-    ∙ sym (multiple_double three lawful_three c.args.n c.args.word h)
-    ∙ ap (λ l. word_multiple three c.args.n l c.args.word) (sym c.in-2.is)
+    let sum = sum_code three lawful_three c.args.n c.args.word c.args.word h h in
+    let double = multiple_double three lawful_three c.args.n c.args.word h in
+    let level = ap (λ l. word_multiple three c.args.n l c.args.word) (sym c.in-2.is) in
+    cc
 
 -- 0 times a word is 0, and so is what no level gives
 pub returns-in_default : goal.returns-in_default
