@@ -8,5 +8,6 @@ pub mod open;
 pub mod questions;
 pub mod settled;
 
+pub use contents::{Refusal, Side, content, list, memory, refusal, side, words};
 pub use open::OpenPlan;
 pub use settled::SettledPlan;
