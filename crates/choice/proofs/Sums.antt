@@ -137,27 +137,27 @@ module _ (A : Arithmetic) (L : Lawful A) (n : ℕ) (V : VectorSpace A n) where
     pub fresh-led : (k w : ℕ) → k ≤ length rows → Generates A n rows w → (Generates A n (take k rows) w → ⊥) → Below (length rows) (LedAt A n rows k) w
     fresh-led k w l G = led-below k (length rows) w l (omega arith) (subst (λ xs. Generates A n xs w) (sym (take_all (length rows) rows (omega arith))) G)
 
-module _ (A : Arithmetic) (L : Lawful A) (n : ℕ) (at_least_lem : ℕ → ℕ → Bool) (order : Order A n at_least_lem) (known further rows : List ℕ) (k : ℕ) (within : k ≤ length rows) (front : take k rows ≡ known) (echelon : Echelon A n rows) (same : SameWords A n rows (known ++ further)) where
+module _ (A : Arithmetic) (L : Lawful A) (n : ℕ) (at_least : ℕ → ℕ → Bool) (order : Order A n at_least) (known further rows : List ℕ) (k : ℕ) (within : k ≤ length rows) (front : take k rows ≡ known) (echelon : Echelon A n rows) (same : SameWords A n rows (known ++ further)) where
   -- the best of the words that are led from place k on is the best fresh word, in range
-  found_in_range : VectorSpace A n → (o : Option ℕ) → TopOf at_least_lem (Below (length rows) (LedAt A n rows k)) o → o ≡ best at_least_lem (fresh A n (known ++ further) known)
-  found_in_range V None top = sym (next_none A L n at_least_lem (known ++ further) known (λ w G. elim (any_or_not A L n (vector_space A L n) known w) [
+  found_in_range : VectorSpace A n → (o : Option ℕ) → TopOf at_least (Below (length rows) (LedAt A n rows k)) o → o ≡ best at_least (fresh A n (known ++ further) known)
+  found_in_range V None top = sym (next_none A L n at_least (known ++ further) known (λ w G. elim (any_or_not A L n (vector_space A L n) known w) [
     | inl t ↦ t
     | inr f ↦ absurd (top w (fresh-led A L n V rows echelon k w within ((same w).1 G) (λ t. f (subst (λ us. Generates A n us w) front t))))
   ]))
   found_in_range V (Some r) top =
       let p = led-fresh A L n V rows echelon k r top.among in
-      sym (next_is A L n at_least_lem order (known ++ further) known r ((same r).0 p.0) (λ t. p.1 (subst (λ us. Generates A n us r) (sym front) t))
+      sym (next_is A L n at_least order (known ++ further) known r ((same r).0 p.0) (λ t. p.1 (subst (λ us. Generates A n us r) (sym front) t))
       (λ y G new. top.over y (fresh-led A L n V rows echelon k y within ((same y).1 G) (λ t. new (subst (λ us. Generates A n us y) front t)))))
 
   -- and where no code is legal, there is none
-  found_out_of_range : ((w : ℕ) → legal A n w ≡ false) → (o : Option ℕ) → TopOf at_least_lem (Below (length rows) (LedAt A n rows k)) o → o ≡ best at_least_lem (fresh A n (known ++ further) known)
-  found_out_of_range none None top = sym (next_none A L n at_least_lem (known ++ further) known (none_trans A L n none (known ++ further) known))
+  found_out_of_range : ((w : ℕ) → legal A n w ≡ false) → (o : Option ℕ) → TopOf at_least (Below (length rows) (LedAt A n rows k)) o → o ≡ best at_least (fresh A n (known ++ further) known)
+  found_out_of_range none None top = sym (next_none A L n at_least (known ++ further) known (none_trans A L n none (known ++ further) known))
   found_out_of_range none (Some r) top =
       let i = top.among.0 in
       absurd (both_ways (legal A n (get_or rows i 0)) (none (get_or rows i 0)) (echelon.words i top.among.1))
 
   -- the best of the words that are led from place k on is the best fresh word
-  pub found : (o : Option ℕ) → TopOf at_least_lem (Below (length rows) (LedAt A n rows k)) o → o ≡ best at_least_lem (fresh A n (known ++ further) known)
+  pub found : (o : Option ℕ) → TopOf at_least (Below (length rows) (LedAt A n rows k)) o → o ≡ best at_least (fresh A n (known ++ further) known)
   found = elim (in_range_or_none A n) [ inl r ↦ found_in_range (vector_space A L n r.0 r.1) | inr z ↦ found_out_of_range z ]
 
 module _ (A : Arithmetic) (L : Lawful A) (good : Relation) (laws : PreferenceLaws A good) (n : ℕ) (base : List ℕ) (level v start next : ℕ) (word : Word A n start) (is : next ≡ word_sum A n start (word_multiple A n level v)) where

@@ -68,13 +68,13 @@ module _ (A : Arithmetic) (L : Lawful A) (good : Relation) (n : ℕ) (base furth
   -- 16 chosen words are the first generators
   pub turn_full : (rows ours : List ℕ) → Turn A good n base further rows ours → length ours ≡ 16 → ours ≡ take 16 (generators A good n base further)
   turn_full rows ours t full =
-      let at_least_lem = judged A good n base in
-      let b = stepped_bound A L n at_least_lem base further ours t.stepped in
+      let at_least = judged A good n base in
+      let b = stepped_bound A L n at_least base further ours t.stepped in
       let k = length further - length ours in
       let all : length further ≡ length ours + k = omega arith in
-      sym (ap (λ m. take 16 (Run A n at_least_lem (base ++ further) base m)) all
-      ∙ ap (take 16) (stepped_steps A n at_least_lem (base ++ further) ours base t.stepped k)
-      ∙ take_at ours (Run A n at_least_lem (base ++ further) (base ++ ours) k) 16 full)
+      sym (ap (λ m. take 16 (Run A n at_least (base ++ further) base m)) all
+      ∙ ap (take 16) (stepped_steps A n at_least (base ++ further) ours base t.stepped k)
+      ∙ take_at ours (Run A n at_least (base ++ further) (base ++ ours) k) 16 full)
 
   -- the first 16 generators are all, and what is promised, where there are at most 16 further words
   pub promised : PreferenceLaws A good → (ours : List ℕ) → ours ≡ take 16 (generators A good n base further) → length further ≤ 16 → BestGenerators A good n base further ours

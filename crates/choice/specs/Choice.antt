@@ -11,14 +11,14 @@ beyond (x ∷ xs) known = cond (holds known x) (beyond xs known) (x ∷ beyond x
 
 -- the best word of an ascending list, the smallest code among equals
 abbrev pub best : (ℕ → ℕ → Bool) → List ℕ → Option ℕ
-best at_least_lem [] = None
-best at_least_lem (x ∷ xs) = elim (best at_least_lem xs) [ None ↦ Some x | Some y ↦ cond (at_least_lem x y) (Some x) (Some y) ]
+best at_least [] = None
+best at_least (x ∷ xs) = elim (best at_least xs) [ None ↦ Some x | Some y ↦ cond (at_least x y) (Some x) (Some y) ]
 
 -- the steps of the choice, at most k of them: the best of the wanted words that the base list and the words chosen so far do not generate
 abbrev pub steps : Arithmetic → (ℕ → ℕ → Bool) → ℕ → List ℕ → List ℕ → ℕ → List ℕ
-steps A at_least_lem n wanted known zero = []
-steps A at_least_lem n wanted known (suc k) =
-    elim (best at_least_lem (beyond wanted (generated A n known))) [ None ↦ [] | Some w ↦ w ∷ steps A at_least_lem n wanted (known ++ w ∷ []) k ]
+steps A at_least n wanted known zero = []
+steps A at_least n wanted known (suc k) =
+    elim (best at_least (beyond wanted (generated A n known))) [ None ↦ [] | Some w ↦ w ∷ steps A at_least n wanted (known ++ w ∷ []) k ]
 
 -- the generators of what a base list and further words generate together, beyond the base list; there are at most as many as further words
 abbrev pub generators : Arithmetic → Relation → ℕ → List ℕ → List ℕ → List ℕ

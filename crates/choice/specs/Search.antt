@@ -52,11 +52,11 @@ abbrev pub LedAt : Arithmetic → ℕ → List ℕ → ℕ → ℕ → ℕ → T
 LedAt A n rows k i w = (k ≤ i) × Led A n (take i rows) (slice_index rows i) w
 
 -- r is one of the words, at least as good as each, and the smallest code of those that are as good
-pub record Top (at_least_lem : ℕ → ℕ → Bool) (Among : ℕ → Type 0) (r : ℕ) : Type 0 where
+pub record Top (at_least : ℕ → ℕ → Bool) (Among : ℕ → Type 0) (r : ℕ) : Type 0 where
   pub among : Among r
-  pub over : (y : ℕ) → Among y → (at_least_lem r y ≡ true) × (at_least_lem y r ≡ true → r ≤ y)
+  pub over : (y : ℕ) → Among y → (at_least r y ≡ true) × (at_least y r ≡ true → r ≤ y)
 
 -- the same of a word that may be absent, and is so only where there is none
 abbrev pub TopOf : (ℕ → ℕ → Bool) → (ℕ → Type 0) → Option ℕ → Type 0
-TopOf at_least_lem Among None = (y : ℕ) → Among y → ⊥
-TopOf at_least_lem Among (Some r) = Top at_least_lem Among r
+TopOf at_least Among None = (y : ℕ) → Among y → ⊥
+TopOf at_least Among (Some r) = Top at_least Among r

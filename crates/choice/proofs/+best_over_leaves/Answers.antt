@@ -20,9 +20,9 @@ loop-level-init g t c =
     let start = c.args.start in
     let w = get_or rows 0 0 in
     let rest = take (length rows - 1) (drop 1 rows) in
-    let at_least_lem = judged A (g.P.Preference.good c.args.preference.now) n c.args.base.now in
-    top_first at_least_lem (λ l. Coset A n rest (word_sum A n start (word_multiple A n l w))) c.best_over_leaves-best.result
-    (subst (λ x. Top at_least_lem (Coset A n rest x) c.best_over_leaves-best.result) (sym (start_again A g.met.L.Levels.lawful n w start c.requires.start)) c.best_over_leaves-best.ensures)
+    let at_least = judged A (g.P.Preference.good c.args.preference.now) n c.args.base.now in
+    top_first at_least (λ l. Coset A n rest (word_sum A n start (word_multiple A n l w))) c.best_over_leaves-best.result
+    (subst (λ x. Top at_least (Coset A n rest x) c.best_over_leaves-best.result) (sym (start_again A g.met.L.Levels.lawful n w start c.requires.start)) c.best_over_leaves-best.ensures)
 
 -- the next start is a word
 pub best_over_leaves-requires : goal.best_over_leaves-requires
@@ -107,11 +107,11 @@ returns g t c =
     let rows = c.args.rows.now in
     let start = c.args.start in
     let w = get_or rows 0 0 in
-    let at_least_lem = judged A (g.P.Preference.good c.args.preference.now) n c.args.base.now in
+    let at_least = judged A (g.P.Preference.good c.args.preference.now) n c.args.base.now in
     let some : 0 < length rows = omega (arith, c.requires.before, c.if-before-eq0.false) in
     let split : rows ≡ w ∷ take (length rows - 1) (drop 1 rows) = drop_more rows 0 0 some ∙ ap (λ ws. w ∷ ws) (sym (take_rest rows 1)) in
     let end = g.met.L.Levels.lawful.field.two_levels in
     let all : c.loop-level.level ≡ A.s
     = omega (arith, c.loop-level-test.false, c.loop-level.auto.level-end (omega (arith, c.get-level-end.ensures, g.met.L.Levels.levels, end)), c.get-level-end.ensures, g.met.L.Levels.levels) in
-    subst (λ ws. Top at_least_lem (Coset A n ws start) c.loop-level.best) (sym split)
-    (subst (λ k. Top at_least_lem (Below k (λ l. Coset A n (take (length rows - 1) (drop 1 rows)) (word_sum A n start (word_multiple A n l w)))) c.loop-level.best) all c.loop-level.invariant)
+    subst (λ ws. Top at_least (Coset A n ws start) c.loop-level.best) (sym split)
+    (subst (λ k. Top at_least (Below k (λ l. Coset A n (take (length rows - 1) (drop 1 rows)) (word_sum A n start (word_multiple A n l w)))) c.loop-level.best) all c.loop-level.invariant)
