@@ -16,7 +16,13 @@ use preferences::Shortest;
 pub fn carry_out<L: Levels>(calls: &[Call<'_>]) -> Option<Trial<L>>
     ensures { option_map working_of result ≡ after_all L.Levels.model (map meant calls.now) new }
 {
-    let mut trial = Trial::Open(OpenPlan::new());
+    carry_on(Trial::Open(OpenPlan::new()), calls)
+}
+
+// Carries out calls on a plan.
+fn carry_on<L: Levels>(mut trial: Trial<L>, calls: &[Call<'_>]) -> Option<Trial<L>>
+    ensures { option_map working_of result ≡ after_all L.Levels.model (map meant calls.now) (working_of trial) }
+{
     for call in calls {
         trial = step(trial, *call)?;
     }

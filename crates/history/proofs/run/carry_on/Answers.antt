@@ -2,7 +2,7 @@ use Rattle.std.proofs.Common.{◌<◌, length, sym, ap, ◌∙◌, arith}
 use Rattle.std.specs.Option.{option_map}
 use Rattle.history.specs.Meant.{working_of}
 use Rattle.history.proofs.Carrying.{carried_none, carried_more, carried_no_more}
-use Rattle.history.proofs.run.carry_out.Goals as goal
+use Rattle.history.proofs.run.carry_on.Goals as goal
 
 -- a call in the other state than it needs
 pub returns-in_err-trial : goal.returns-in_err-trial
