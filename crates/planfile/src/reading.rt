@@ -73,7 +73,9 @@ fn read_words<L: Levels>(
     requires long { 8 * (defining + block) ≤ length bytes.now }
     ensures { result_of result ≡ read_words L.Levels.model n defining block bytes.now }
 {
-    let mut held = PlanContent::started(n)?;
+    let Ok(mut held) = PlanContent::started(n) else {
+        unreachable()
+    };
     admit_words::<L>(&mut held, Side::Defining, defining, bytes)?;
     admit_words::<L>(&mut held, Side::Block, block, &bytes[8 * defining..])?;
     Ok(held)

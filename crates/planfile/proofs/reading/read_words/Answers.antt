@@ -26,7 +26,7 @@ returns-in_err-admit_words-2 g c =
     let bs = c.args.bytes.now in
     let p = content_of c.admit_words.new.held in
     let x = err_from_is_err_and c.from_residual-in_err-admit_words-2.result c.from_residual-in_err-admit_words-2.ensures.1 in
-    let begun = begins n (content_of c.in_ok-held.held) c.requires.low c.requires.high c.in_ok-held.ensures in
+    let begun = begins n (content_of c.in-Ok.held) c.requires.low c.requires.high c.in-Ok.ensures in
     let first : admitted_all A Defining (words_in d bs) (blank n) ≡ Ok p =
     ap (λ q. admitted_all A Defining (words_in d bs) q) (sym begun) ∙ sym c.admit_words.ensures
     ∙ ap (λ v. ended v p) c.in_ok-admit_words.was in
@@ -42,7 +42,7 @@ returns g c =
     let b = c.args.block in
     let bs = c.args.bytes.now in
     let p = content_of c.admit_words.new.held in
-    let begun = begins n (content_of c.in_ok-held.held) c.requires.low c.requires.high c.in_ok-held.ensures in
+    let begun = begins n (content_of c.in-Ok.held) c.requires.low c.requires.high c.in-Ok.ensures in
     let first : admitted_all A Defining (words_in d bs) (blank n) ≡ Ok p =
     ap (λ q. admitted_all A Defining (words_in d bs) q) (sym begun) ∙ sym c.admit_words.ensures
     ∙ ap (λ v. ended v p) c.in_ok-admit_words.was in
