@@ -35,7 +35,7 @@ loop-i-preserved g c =
     let k = length (basis_rows c.args.known.now) in
     let echelon : Echelon A n rows = subst (Echelon A n) (sym c.rows-rows.ensures) (c.admit_all.ensures.echelon c.requires) in
     led_row A g.met.L.Levels.lawful good (g.met.P.Preference.lawful c.args.preference.now) n base rows k i
-    (omega (arith, c.loop-i.auto.i)) (echelon.words i c.loop-i-test.true)
+    (omega arith) (echelon.words i c.loop-i-test.true)
     c.loop-i.best c.either-best.result c.best_led-led.result c.either-best.ensures c.loop-i.invariant
     (subst (λ us. Top (judged A good n base) (Led A n us (get_or rows i 0)) c.best_led-led.result) (ap (λ j. take j rows) (sub-zero i)) c.best_led-led.ensures)
 
