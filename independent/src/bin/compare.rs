@@ -474,7 +474,7 @@ fn main() {
     });
     let cases = numbers.get(1).copied().unwrap_or(40_000);
     println!("seed {seed}, {cases} cases");
-    let mut t = Tally { seed, case: 0, file: vec![], dear: false, counts: BTreeMap::new() };
+    let mut t = Tally { file: vec![], seed, case: 0, dear: false, counts: BTreeMap::new() };
     let range = match numbers.get(2) {
         Some(&case) => case..case + 1,
         None => 0..cases,
