@@ -1,7 +1,7 @@
 -- How rows in echelon form grow: they are independent, at most as many as factors, and one word more is a row more unless it was known.
 use Rattle.std.proofs.Common.{◌≡◌, ℕ, zero, suc, ◌<◌, ◌≤◌, eqb, List, [], ◌∷◌, ◌++◌, length, get_or, take, Decides, sym, refl, ap, subst, inl, inr, arith, length-append, length-take}
-use Rattle.std.proofs.lemmas.Bool.{both_ways, eq-eqb, eqb-true}
-use Rattle.std.proofs.lemmas.List.{append-nil, append_assoc, get_or-take}
+use Rattle.std.proofs.lemmas.Bool.{both_ways, cases_lt, eq-eqb, eqb-true}
+use Rattle.std.proofs.lemmas.List.{append-nil, append_assoc, get_or-take, take_all, take_at}
 use Rattle.levels.specs.Arithmetic.{Arithmetic, Lawful}
 use Rattle.levels.specs.Words.{legal}
 use Rattle.levels.specs.Space.{Word, VectorSpace}
@@ -105,7 +105,7 @@ module _ (A : Arithmetic) (L : Lawful A) (n : ℕ) where
     ]
 
     -- and the rows with it are as admitting the word is to leave them
-    pub admitted-new : Admitted A n rows w (rows ++ r ∷ [])
+    admitted-new : Admitted A n rows w (rows ++ r ∷ [])
     admitted-new = record {
       extended = record {
         grows = (r ∷ [], refl);
@@ -122,8 +122,15 @@ module _ (A : Arithmetic) (L : Lawful A) (n : ℕ) where
     }
 
     -- 32 rows in echelon form leave nothing of a word
-    pub never-full : 32 ≤ length rows → Echelon A n rows → ⊥
+    never-full : 32 ≤ length rows → Echelon A n rows → ⊥
     never-full full e = omega (arith, echelon_most (rows ++ r ∷ []) (one_more e), length-append rows (r ∷ []), (word_legal A n w hw).high)
+
+    -- so what is left of a word has room where at most 32 rows are kept
+    pub admitted_pushed : length rows ≤ 32 → Admitted A n rows w (take 32 (rows ++ r ∷ []))
+    admitted_pushed few = elim (cases_lt (length rows) 32) [
+      | inl l ↦ rw (take_all 32 (rows ++ r ∷ []) (omega (arith, length-append rows (r ∷ [])))) admitted-new
+      | inr g ↦ rw (take_at rows (r ∷ []) 32 (omega arith)) (admitted_known rows w (λ e. absurd (never-full g e)))
+    ]
 
   -- no word leaves the rows as they are
   pub extended_none : (rows : List ℕ) → Extended A n rows [] rows

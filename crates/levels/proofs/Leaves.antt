@@ -1,8 +1,8 @@
 -- Lists of words plus multiples of words, and counts of words by length.
-use Rattle.std.proofs.Common.{◌≡◌, ℕ, suc, ◌+◌, ◌-◌, ◌*◌, ◌%◌, ◌^◌, ◌<◌, ◌≤◌, Bool, false, cond, eqb, List, [], ◌∷◌, ◌++◌, map, length, get_or, take, drop, set, replicate, sym, refl, ap, ◌∙◌, subst, inl, inr, add_assoc, mod-lt, mod-eq_of_lt, mul-le-mul_left, zero-add, mul-suc, arith}
-use native.Mathlib.Nat.{mod-add-mod, sub-zero}
+use Rattle.std.proofs.Common.{◌≡◌, ℕ, zero, suc, ◌+◌, ◌*◌, ◌%◌, ◌^◌, ◌<◌, ◌≤◌, Bool, false, cond, eqb, List, [], ◌∷◌, ◌++◌, map, length, get_or, take, drop, set, replicate, sym, refl, ap, ◌∙◌, subst, inl, inr, add_assoc, mod-lt, mod-eq_of_lt, mul-le-mul_left, zero-add, mul_comm, mul-suc, add-one, arith}
+use native.Mathlib.Nat.{mod-add-mod}
 use Rattle.std.proofs.lemmas.Bool.{cases_eq, cond-true, cond-false, eq-eqb, ne_eqb}
-use Rattle.std.proofs.lemmas.List.{get_or-take, length-take, get_or-set_same, get_or-set_other, get_or-replicate, map-append, take-append-drop}
+use Rattle.std.proofs.lemmas.List.{get_or-set_same, get_or-set_other, get_or-replicate, get_or_append_left, append-nil, map-append, length-map, length-append, length-take, append_assoc, map_more, take_all}
 use Rattle.levels.specs.Arithmetic.{Arithmetic, Lawful}
 use Rattle.levels.specs.Words.{legal, word_sum, word_multiple, word_length, code_sum}
 use Rattle.levels.specs.Space.{Word, AllWords}
@@ -13,21 +13,16 @@ use Rattle.levels.proofs.Space.{vector_space}
 use Rattle.levels.proofs.Lengths.{sum_code, length_at_most}
 use Rattle.levels.proofs.Linear.{mul_word, mul_by_zero, gen_word}
 use Rattle.levels.proofs.Generation.{space, combination_generated}
-use Rattle.levels.proofs.Places.{in_map_from, in_each_from}
+use Rattle.levels.proofs.Places.{in_map_from, in_each_from, length_each}
 use Rattle.levels.proofs.Ascending.{how_many_append}
 
 -- one more block of a width has room below a limit of blocks
 pub block_room : (width level s : ℕ) → level < s → width * level + width ≤ width * s
 block_room width level s l = let h : width * suc level ≤ width * s = mul-le-mul_left width l in omega (arith, mul-suc width level)
 
--- lists with the same front have the same numbers in it
-pub same_front : (width : ℕ) (xs ys : List ℕ) (i : ℕ) → take width xs ≡ take width ys → i < width → get_or xs i 0 ≡ get_or ys i 0
-same_front width xs ys i e l = sym (get_or-take width xs i 0 l) ∙ ap (λ zs. get_or zs i 0) e ∙ get_or-take width ys i 0 l
-
--- the words of a front of a list
-pub first_words : (A : Arithmetic) (n width : ℕ) (xs : List ℕ) (i : ℕ) → AllWords A n (take width xs) → i < width → i < length xs → Word A n (get_or xs i 0)
-first_words A n width xs i h l m =
-    subst (Word A n) (get_or-take width xs i 0 l) (h i (omega (arith, length-take width xs)))
+-- the words of a list plus each multiple by a level below k are k times as many
+pub multiples_length : (A : Arithmetic) (n k w : ℕ) (xs : List ℕ) → length (multiples_below A n k w xs) ≡ k * length xs
+multiples_length A n k w xs = length_each k (length xs) (λ c. map (word_sum A n (word_multiple A n c w)) xs) (λ c. length-map xs (word_sum A n (word_multiple A n c w)))
 
 module _ (A : Arithmetic) where
   -- a count that has been added to is of 64 bits
@@ -96,6 +91,19 @@ module _ (A : Arithmetic) (L : Lawful A) (n : ℕ) where
       let same : word_length A sum ≡ word_length A (word_sum A n a b) = ap (word_length A) (es ∙ sym (sum_code A L n a b wa wb)) in
       omega arith
 
+  -- a word plus the words of a list, and plus one more of them
+  pub one_leaf_more : (a : ℕ) (leaves : List ℕ) (k sum size : ℕ) (before counts : List ℕ) → Word A n a → AllWords A n leaves → k < length leaves →
+      sum ≡ code_sum A a (get_or leaves k 0) → size ≡ word_length A sum → length counts ≡ 65 → Adds A (map (word_sum A n a) (take k leaves)) before counts →
+      Adds A (map (word_sum A n a) (take (k + 1) leaves)) before (set counts size ((get_or counts size 0 + 1) % 2 ^ 64))
+  one_leaf_more a leaves k sum size before counts wa wl l es ez long added =
+      let front = map (word_sum A n a) (take k leaves) in
+      let after = set counts size ((get_or counts size 0 + 1) % 2 ^ 64) in
+      let value : sum ≡ word_sum A n a (get_or leaves k 0) = es ∙ sym (sum_code A L n a (get_or leaves k 0) wa (wl k l)) in
+      let inside : size < length counts = omega (arith, leaf_length a leaves k sum size wa wl l es ez) in
+      subst (λ xs. Adds A xs before after)
+      (ap (λ x. front ++ x ∷ []) value ∙ sym (map_more (word_sum A n a) leaves k 0 l))
+      (adds_more A front (sum ∷ []) before counts after added (adds_one A sum size counts ez inside (adds_fit A front before counts added)))
+
   -- adding the multiple by 0 changes no word
   pub zero_multiple : (w x : ℕ) → Word A n x → word_sum A n (word_multiple A n 0 w) x ≡ x
   zero_multiple w x h =
@@ -124,6 +132,52 @@ module _ (A : Arithmetic) (L : Lawful A) (n : ℕ) where
       subst (Word A n) (sym q.2)
       ((vector_space A L n r.low r.high).sum_word (word_multiple A n p.0 w) q.0 (multiple_legal p.0 w q.0 wy) wy)
 
+  -- words plus multiples of w begin with the words
+  begins : (k w : ℕ) (xs : List ℕ) → AllWords A n xs → (more : List ℕ) × (multiples_below A n (suc k) w xs ≡ xs ++ more)
+  begins zero w xs h = ([], zero_multiples w xs h ∙ sym (append-nil xs))
+  begins (suc k) w xs h =
+      let r = begins k w xs h in
+      let ys = map (word_sum A n (word_multiple A n (suc k) w)) xs in
+      (r.0 ++ ys, ap (λ zs. zs ++ ys) r.1 ∙ append_assoc xs r.0 ys)
+
+  -- so each of the words stands at its place there
+  pub first_sum : (k w i : ℕ) (xs sums ys : List ℕ) → 0 < k → AllWords A n xs → sums ≡ multiples_below A n k w xs ++ ys → i < length xs →
+      (i < length sums) × (get_or sums i 0 ≡ get_or xs i 0)
+  first_sum zero w i xs sums ys p h e l = absurd (omega arith)
+  first_sum (suc k) w i xs sums ys p h e l =
+      let r = begins k w xs h in
+      let whole : sums ≡ xs ++ (r.0 ++ ys) = e ∙ ap (λ zs. zs ++ ys) r.1 ∙ append_assoc xs r.0 ys in
+      (omega (arith, ap length whole, length-append xs (r.0 ++ ys)), ap (λ zs. get_or zs i 0) whole ∙ get_or_append_left xs (r.0 ++ ys) 0 i l)
+
+  -- words plus multiples of w by the levels below k, then plus its multiple m by k, and one more of these, for which there is room
+  pub one_sum_more : (k w m sum i : ℕ) (xs sums : List ℕ) → 0 < k → k < A.s → length xs * A.s ≤ 64 → AllWords A n xs → m ≡ word_multiple A n k w → i < length xs →
+      sums ≡ multiples_below A n k w xs ++ map (word_sum A n m) (take i xs) → sum ≡ code_sum A m (get_or sums i 0) →
+      take 64 (sums ++ sum ∷ []) ≡ multiples_below A n k w xs ++ map (word_sum A n m) (take (i + 1) xs)
+  one_sum_more k w m sum i xs sums pk lk room words em li e ex =
+      let x = get_or xs i 0 in
+      let start = multiples_below A n k w xs in
+      let first = first_sum k w i xs sums (map (word_sum A n m) (take i xs)) pk words e li in
+      let wx : Word A n x = words i li in
+      let wm : Word A n m = subst (Word A n) (sym em) (multiple_legal k w x wx) in
+      let value : sum ≡ word_sum A n m x = ex ∙ ap (code_sum A m) first.1 ∙ sym (sum_code A L n m x wm wx) in
+      let more = start ++ map (word_sum A n m) (take (i + 1) xs) in
+      let one : sums ++ sum ∷ [] ≡ more =
+      ap (λ ys. ys ++ sum ∷ []) e
+      ∙ append_assoc start (map (word_sum A n m) (take i xs)) (sum ∷ [])
+      ∙ ap (λ y. start ++ (map (word_sum A n m) (take i xs) ++ y ∷ [])) value
+      ∙ ap (λ ys. start ++ ys) (sym (map_more (word_sum A n m) xs i 0 li)) in
+      let long : length more ≤ 64 =
+      omega (
+        arith,
+        length-append start (map (word_sum A n m) (take (i + 1) xs)),
+        length-map (take (i + 1) xs) (word_sum A n m),
+        length-take (i + 1) xs,
+        multiples_length A n k w xs,
+        block_room (length xs) k A.s lk,
+        mul_comm k (length xs),
+      ) in
+      ap (take 64) one ∙ take_all 64 more long
+
   -- adding two words one after the other
   pub sum_twice : (a b : ℕ) (xs : List ℕ) → Word A n a → Word A n b → AllWords A n xs → map (word_sum A n a) (map (word_sum A n b) xs) ≡ map (word_sum A n (word_sum A n a b)) xs
   sum_twice a b [] wa wb h = refl
@@ -140,21 +194,31 @@ module _ (A : Arithmetic) (L : Lawful A) (n : ℕ) where
       map-append (word_sum A n a) (multiples_below A n k w xs) (map (word_sum A n (word_multiple A n k w)) xs)
       ∙ ap (λ ys. map (word_sum A n a) (multiples_below A n k w xs) ++ ys) (sum_twice a (word_multiple A n k w) xs wa (multiple_legal k w a wa) h)
 
+  -- a start plus words plus multiples of w by levels below k, and plus the multiple by k
+  pub one_level_counted : (a k w sum : ℕ) (xs before middle after : List ℕ) → Word A n a → AllWords A n xs → sum ≡ word_sum A n a (word_multiple A n k w) →
+      Adds A (map (word_sum A n a) (multiples_below A n k w xs)) before middle → Adds A (map (word_sum A n sum) xs) middle after →
+      Adds A (map (word_sum A n a) (multiples_below A n (k + 1) w xs)) before after
+  one_level_counted a k w sum xs before middle after wa wl value first next =
+      let front = map (word_sum A n a) (multiples_below A n k w xs) in
+      subst (λ ys. Adds A ys before after)
+      (ap (λ b. front ++ map (word_sum A n b) xs) value
+      ∙ sym (one_level_more a k w xs wa wl)
+      ∙ ap (λ j. map (word_sum A n a) (multiples_below A n j w xs)) (sym (add-one k)))
+      (adds_more A front (map (word_sum A n sum) xs) before middle after first next)
+
   -- all sums of multiples of words and further words
   pub combinations_append : (us vs : List ℕ) → combinations A n (us ++ vs) ≡ with_all_multiples A n us (combinations A n vs)
   combinations_append [] vs = refl
   combinations_append (u ∷ us) vs = ap (with_multiples A n u) (combinations_append us vs)
 
   -- a start plus the sums of multiples of the first words and of the last ones are all its aliases
-  pub all_aliases : (ws sums : List ℕ) (k width x : ℕ) → take width sums ≡ combinations A n (drop k ws) →
-      map (word_sum A n x) (with_all_multiples A n (take (k - 0) ws) (take (width - 0) sums)) ≡ aliases A n ws x
-  all_aliases ws sums k width x e =
-      let front : take (width - 0) sums ≡ combinations A n (drop k ws) = ap (λ m. take m sums) (sub-zero width) ∙ e in
+  pub all_aliases : (ws first sums : List ℕ) (x : ℕ) → first ++ drop (length first) ws ≡ ws → sums ≡ combinations A n (drop (length first) ws) →
+      map (word_sum A n x) (with_all_multiples A n first sums) ≡ aliases A n ws x
+  all_aliases ws first sums x whole e =
       ap (map (word_sum A n x))
-      (ap (λ m. with_all_multiples A n (take m ws) (take (width - 0) sums)) (sub-zero k)
-      ∙ ap (with_all_multiples A n (take k ws)) front
-      ∙ sym (combinations_append (take k ws) (drop k ws))
-      ∙ ap (combinations A n) (take-append-drop k ws))
+      (ap (with_all_multiples A n first) e
+      ∙ sym (combinations_append first (drop (length first) ws))
+      ∙ ap (combinations A n) whole)
 
   -- an illegal start has no tally
   pub no_tally : (ws : List ℕ) (x i : ℕ) → legal A n x ≡ false → 0 ≡ tallied A n ws x i
@@ -176,6 +240,6 @@ module _ (A : Arithmetic) (L : Lawful A) (n : ℕ) where
       let V = vector_space A L n r.low r.high in
       gen_word (space A L n V) ws (get_or (combinations A n ws) i 0) (combination_generated A L n V ws (get_or (combinations A n ws) i 0) (i, l, refl))
 
-  -- so are those in front of a table
-  pub front_words : (ws sums : List ℕ) (k width x : ℕ) → Word A n x → take width sums ≡ combinations A n (drop k ws) → AllWords A n (take (width - 0) sums)
-  front_words ws sums k width x h e = subst (AllWords A n) (sym (ap (λ m. take m sums) (sub-zero width) ∙ e)) (combinations_words (drop k ws) x h)
+  -- so are the numbers of a list that is these sums
+  pub sums_words : (ws sums : List ℕ) (x : ℕ) → sums ≡ combinations A n ws → Word A n x → AllWords A n sums
+  sums_words ws sums x e h = subst (AllWords A n) (sym e) (combinations_words ws x h)

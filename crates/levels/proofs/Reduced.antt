@@ -1,5 +1,5 @@
 -- Reduction of words by rows in echelon form: the smallest alias, and how rows grow.
-use Rattle.std.proofs.Common.{◌≡◌, ℕ, suc, ◌+◌, ◌<◌, ◌≤◌, List, [], ◌∷◌, ◌++◌, length, get_or, take, sym, refl, ◌∙◌, subst, inl, inr, le_of_eq, arith, length-append, length-take}
+use Rattle.std.proofs.Common.{◌≡◌, ℕ, suc, ◌+◌, ◌<◌, ◌≤◌, List, [], ◌∷◌, ◌++◌, length, get_or, take, min, sym, refl, ◌∙◌, subst, inl, inr, le_of_eq, arith, length-append, length-take}
 use Rattle.std.proofs.lemmas.Bool.{cases_lt, cases_eq}
 use Rattle.std.proofs.lemmas.List.{get_or-take, get_or_append_left, get_or_push}
 use Rattle.levels.specs.Arithmetic.{Arithmetic, Lawful}
@@ -223,7 +223,7 @@ module _ (A : Arithmetic) (L : Lawful A) (n v w : ℕ) (hv : Word A n v) (hw : W
   next_multiple k o l e = e ∙ sym (sum_code A L n w (word_multiple A n k v) hw ((space_at A L n w hw).multiple_word k v l hv))
 
   -- the next multiple is no smaller
-  pub least_keeps : (k r o : ℕ) → k < A.s → o ≡ code_sum A w (word_multiple A n k v) → r ≤ o → LeastMultiple A n k v w r → LeastMultiple A n (k + 1) v w r
+  least_keeps : (k r o : ℕ) → k < A.s → o ≡ code_sum A w (word_multiple A n k v) → r ≤ o → LeastMultiple A n k v w r → LeastMultiple A n (k + 1) v w r
   least_keeps k r o lk e le m = record {
     multiple = (m.multiple.0, omega (arith, m.multiple.1), m.multiple.2);
     least = λ c l. elim (cases_eq c k) [
@@ -233,7 +233,7 @@ module _ (A : Arithmetic) (L : Lawful A) (n v w : ℕ) (hv : Word A n v) (hw : W
   }
 
   -- the next multiple is smaller
-  pub least_takes : (k r o : ℕ) → k < A.s → o ≡ code_sum A w (word_multiple A n k v) → o < r → LeastMultiple A n k v w r → LeastMultiple A n (k + 1) v w o
+  least_takes : (k r o : ℕ) → k < A.s → o ≡ code_sum A w (word_multiple A n k v) → o < r → LeastMultiple A n k v w r → LeastMultiple A n (k + 1) v w o
   least_takes k r o lk e lt m = record {
     multiple = (k, omega arith, next_multiple k o lk e);
     least = λ c l. elim (cases_eq c k) [
@@ -241,6 +241,13 @@ module _ (A : Arithmetic) (L : Lawful A) (n v w : ℕ) (hv : Word A n v) (hw : W
       | inr d ↦ omega (arith, m.least c (omega (arith, d)))
     ];
   }
+
+  -- the smaller of the smallest so far and the next multiple is the smallest of one more
+  pub least_more : (k r o : ℕ) → k < A.s → o ≡ code_sum A w (word_multiple A n k v) → LeastMultiple A n k v w r → LeastMultiple A n (k + 1) v w (min r o)
+  least_more k r o lk e m = elim (cases_lt o r) [
+    | inl lt ↦ let small : min r o ≡ o = omega arith in rw small (least_takes k r o lk e lt m)
+    | inr le ↦ let small : min r o ≡ r = omega arith in rw small (least_keeps k r o lk e le m)
+  ]
 
 -- r is what is left of w by some rows: a word, smallest by each row, that differs from w by a generated word
 pub record Left (A : Arithmetic) (n : ℕ) (rows : List ℕ) (w r : ℕ) : Type 0 where

@@ -1,5 +1,6 @@
 -- The rows of a basis, and what admitting words makes of them.
-use Rattle.std.specs.Prelude.{◌≡◌, ℕ, suc, ◌<◌, ◌≤◌, false, ◌⊎◌, List, [], ◌∷◌, ◌++◌, length, take}
+use Rattle.std.specs.Prelude.{◌≡◌, ℕ, suc, ◌<◌, ◌≤◌, false, ◌⊎◌, List, [], ◌∷◌, ◌++◌, length}
+use Rattle.bounded.specs.Items.{items_of}
 use Rattle.levels.specs.declared.basis.Basis.{Basis}
 use Rattle.levels.specs.Arithmetic.{Arithmetic}
 use Rattle.levels.specs.Words.{legal, word_sum, word_multiple}
@@ -8,7 +9,7 @@ use Rattle.levels.specs.Basis.{Echelon}
 
 -- the rows of a basis
 abbrev pub basis_rows : Basis → List ℕ
-basis_rows b = take b.len b.rows
+basis_rows b = items_of b.rows
 
 -- r is the smallest code among w plus the multiples of v by levels below k
 pub record LeastMultiple (A : Arithmetic) (n k v w r : ℕ) : Type 0 where

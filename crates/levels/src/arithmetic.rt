@@ -1,27 +1,30 @@
 // The arithmetic of levels as an interface.
-ghost use Rattle.std.specs.Prelude.{◌≡◌, ◌*◌, ◌^◌, ◌&&◌, nat_le, nat_lt};
+ghost use Rattle.std.specs.Prelude.{◌≡◌, ◌*◌, ◌^◌, ◌&&◌, ℕ, nat_le, nat_lt};
 ghost use Rattle.levels.specs.Arithmetic.{Arithmetic, Lawful};
 ghost use Rattle.levels.specs.Words.{legal, code_sum, word_length, word_multiple, word_sum};
-
-use crate::number::Number;
 
 // Levels of a factor: how many there are, how words of them are packed into codes, and how words are added.
 pub trait Levels {
     // what the levels and their packing are
     ghost model: { Arithmetic };
 
-    type Count: Number;
-
-    type Width: Number;
-
-    type Most: Number;
-
     // the number of levels, s
-    const LEVELS: Self::Count;
+    ghost LEVELS: { ℕ };
+
+    // The number of levels.
+    const LEVELS: u8;
+
     // the bits of a digit
-    const BITS: Self::Width;
+    ghost BITS: { ℕ };
+
+    // The bits that a digit takes in a code.
+    const BITS: u8;
+
     // the limit of words in a plan
-    const LIMIT: Self::Most;
+    ghost LIMIT: { ℕ };
+
+    // The most words that a plan may have.
+    const LIMIT: usize;
 
     // Whether a code is legal for n factors.
     fn legal(n: u8, word: u64) -> bool
@@ -50,26 +53,23 @@ pub trait Levels {
         }
     }
 
+    // the digits form a field, and codes are packed by the rules
     ghost lawful: { Lawful model };
 
-    ghost levels: { Self.Count.Number.value ≡ model.s };
+    // the number of levels is the model's
+    ghost levels: { LEVELS ≡ model.s };
 
-    ghost bits: { Self.Width.Number.value ≡ model.bits };
+    // the bits of a digit are the model's
+    ghost bits: { BITS ≡ model.bits };
 
-    ghost limit: { Self.Most.Number.value ≡ model.limit };
+    // the limit of words is the model's
+    ghost limit: { LIMIT ≡ model.limit };
 }
 
 // Whether there are 1 to 32 factors of so many bits, and a code has no bit beyond them.
-pub(crate) fn within<W: Number>(width: W, n: u8, code: u64) -> bool
-    ensures { result ≡ ((nat_le 1 n && nat_le n 32) && nat_lt code (2 ^ (W.Number.value * n))) }
+pub(crate) fn within(width: u8, n: u8, code: u64) -> bool
+    ensures { result ≡ ((nat_le 1 n && nat_le n 32) && nat_lt code (2 ^ (width * n))) }
 {
-    let width = width.get();
-    if n < 1 || n > 32 {
-        return false;
-    }
-    let mut beyond = code;
-    for _i in 0..width {
-        beyond >>= n;
-    }
-    beyond == 0
+    let bits = u32::from(width) * u32::from(n);
+    (1..=32).contains(&n) && code.checked_shr(bits).unwrap_or(0) == 0
 }

@@ -1,10 +1,10 @@
 // The arithmetic of levels, words, and what a list of words generates.
+// n and the words stay two parameters here: the struct that holds both is the plan, in a crate above.
+// as: From has neither usize to u64 nor a narrower number.
 #![tactic(auto)]
 
 pub mod arithmetic;
 pub mod basis;
-pub mod number;
-pub mod reduction;
 pub mod span;
 pub mod theorems;
 pub mod three;
@@ -14,3 +14,8 @@ pub use arithmetic::Levels;
 pub use basis::Basis;
 pub use three::ThreeLevels;
 pub use two::TwoLevels;
+
+// Another path to what basis decides.
+pub mod reduction {
+    pub use crate::basis::generated;
+}

@@ -1,15 +1,19 @@
 // The words that a list generates, gone through with one sum a word.
-ghost use Rattle.std.specs.Prelude.{◌≡◌, ℕ, ◌*◌, ◌^◌, ◌<◌, ◌≤◌, false, ◌&&◌, map, length, take, drop, slice_index};
+ghost use Rattle.std.specs.Prelude.{◌≡◌, ℕ, ◌*◌, ◌^◌, ◌<◌, ◌≤◌, false, ◌&&◌, ◌++◌, map, length, drop, slice_index};
+ghost use Rattle.bounded.specs.Items.{items_of};
 ghost use Rattle.levels.specs.Space.{AllWords, Word};
 ghost use Rattle.levels.specs.Words.{legal, word_sum};
 ghost use Rattle.levels.specs.Generated.{combinations};
 ghost use Rattle.levels.specs.Alias.{Adds, aliases, tallied, with_multiples, with_all_multiples};
 
 use crate::arithmetic::Levels;
-use crate::number::Number;
+use bounded::Bounded;
 
 // How many sums are listed at once.
 pub const LEAVES: usize = 64;
+
+// Sums of multiples of words.
+pub type Sums = Bounded<u64, LEAVES>;
 
 // A code of 64 bits has at most 64 digits, so it has one of 65 lengths.
 pub const LENGTHS: usize = 65;
@@ -24,14 +28,14 @@ pub fn tally<L: Levels>(n: u8, words: &[u64], start: u64) -> Tally
 {
     let mut counts = [0; LENGTHS];
     if L::legal(n, start) {
-        let mut sums = [0; LEAVES];
-        let (before, width) = list_sums::<L>(n, words, &mut sums);
-        count::<L>(n, &words[0..before], &sums[0..width], start, &mut counts);
+        let (before, sums) = list_sums::<L>(n, words);
+        count::<L>(n, before, sums.as_slice(), start, &mut counts);
     }
     counts
 }
 
-// Counts the sums of each of two starts and the multiples of words. Nothing is counted where a start is illegal.
+// Counts the sums of each of two starts and the multiples of words, which are listed once, on top of what the tables hold.
+// Nothing is counted where a start is illegal.
 pub fn tally_both<L: Levels>(
     n: u8,
     words: &[u64],
@@ -44,50 +48,49 @@ pub fn tally_both<L: Levels>(
     ensures illegal { (legal L.Levels.model n first && legal L.Levels.model n second) ≡ false → (firsts.new ≡ firsts.old) × (seconds.new ≡ seconds.old) }
 {
     if L::legal(n, first) && L::legal(n, second) {
-        let mut sums = [0; LEAVES];
-        let (before, width) = list_sums::<L>(n, words, &mut sums);
-        count::<L>(n, &words[0..before], &sums[0..width], first, firsts);
-        count::<L>(n, &words[0..before], &sums[0..width], second, seconds);
+        let (before, sums) = list_sums::<L>(n, words);
+        let leaves = sums.as_slice();
+        count::<L>(n, before, leaves, first, firsts);
+        count::<L>(n, before, leaves, second, seconds);
     }
 }
 
-// Lists all sums of multiples of the last words, of as many words as there is room for. Tells how many words come before
-// these, and how many sums there are.
-pub fn list_sums<L: Levels>(n: u8, words: &[u64], sums: &mut [u64; LEAVES]) -> (usize, usize)
-    ensures before { result.0 ≤ length words.now }
-    ensures width { result.1 ≤ 64 }
-    ensures sums { take result.1 sums.new ≡ combinations L.Levels.model n (drop result.0 words.now) }
+// All sums of multiples of the last words, of as many words as there is room for, behind the words that come before these.
+pub fn list_sums<L: Levels>(n: u8, words: &[u64]) -> (&[u64], Sums)
+    ensures words { result.0.now ++ drop (length result.0.now) words.now ≡ words.now }
+    ensures few { length (items_of result.1) ≤ 64 }
+    ensures sums { items_of result.1 ≡ combinations L.Levels.model n (drop (length result.0.now) words.now) }
 {
-    sums[0] = 0;
-    let mut width = 1;
-    let mut before = words.len();
-    if !L::legal(n, 0) {
-        return (before, width);
-    }
-    let levels = L::LEVELS.get() as usize;
-    while before > 0 && width * levels <= LEAVES {
-        before -= 1;
-        width = spread::<L>(n, words[before], sums, width);
-    }
-    (before, width)
-}
-
-// The sums in the front of a list, again with each further multiple of a word.
-fn spread<L: Levels>(n: u8, word: u64, leaves: &mut [u64; LEAVES], width: usize) -> usize
-    requires room { width * L.Levels.model.s ≤ 64 }
-    requires legal { AllWords L.Levels.model n (take width leaves.old) }
-    ensures width { result ≡ width * L.Levels.model.s }
-    ensures front { take result leaves.new ≡ with_multiples L.Levels.model n word (take width leaves.old) }
-{
-    let mut end = width;
-    for level in 1..L::LEVELS.get() {
-        let multiple = L::product(n, level, word);
-        for i in 0..width {
-            leaves[end] = L::add(multiple, leaves[i]);
-            end += 1;
+    let mut sums = Bounded::new(0);
+    sums.push(0);
+    let mut before = words;
+    if L::legal(n, 0) {
+        while let [rest @ .., word] = before {
+            if sums.len() * usize::from(L::LEVELS) > LEAVES {
+                break;
+            }
+            spread::<L>(n, *word, &mut sums);
+            before = rest;
         }
     }
-    end
+    (before, sums)
+}
+
+// The sums of a list, again with each further multiple of a word.
+fn spread<L: Levels>(n: u8, word: u64, sums: &mut Sums)
+    requires room { length (items_of sums.old) * L.Levels.model.s ≤ 64 }
+    requires legal { AllWords L.Levels.model n (items_of sums.old) }
+    ensures { items_of sums.new ≡ with_multiples L.Levels.model n word (items_of sums.old) }
+{
+    let width = sums.len();
+    for level in 1..L::LEVELS {
+        let multiple = L::product(n, level, word);
+        // By place: a copy of the list takes about 1.3 times as long.
+        for i in 0..width {
+            let sum = sums.as_slice()[i];
+            sums.push(L::add(multiple, sum));
+        }
+    }
 }
 
 // Counts the sums of a start, the multiples of words and a leaf.
@@ -100,12 +103,12 @@ fn count<L: Levels>(n: u8, words: &[u64], leaves: &[u64], start: u64, counts: &m
     match words {
         [] => {
             for leaf in leaves {
-                let length = L::length(L::add(start, *leaf)) as usize;
+                let length = usize::from(L::length(L::add(start, *leaf)));
                 counts[length] = counts[length].wrapping_add(1);
             }
         }
         [word, rest @ ..] => {
-            for level in 0..L::LEVELS.get() {
+            for level in 0..L::LEVELS {
                 count::<L>(
                     n,
                     rest,

@@ -1,10 +1,9 @@
 // Three levels: two bits a factor, and the sum is modulo 3.
+ghost use Rattle.std.specs.Prelude.{refl};
 ghost use Rattle.levels.specs.Arithmetic.{three};
 ghost use Rattle.levels.specs.Lawful.{lawful_three};
-ghost use Rattle.std.proofs.Common.{rules};
 
 use crate::arithmetic::{Levels, within};
-use crate::number::Exactly;
 
 // the low bit of each digit
 const LOW: u64 = 0x5555_5555_5555_5555;
@@ -15,26 +14,26 @@ pub struct ThreeLevels;
 impl Levels for ThreeLevels {
     ghost model = { three };
 
-    type Count = Exactly<3>;
+    ghost LEVELS = { 3 };
 
-    type Width = Exactly<2>;
+    const LEVELS: u8 = 3;
 
-    type Most = Exactly<10>;
+    ghost BITS = { 2 };
 
-    const LEVELS: Self::Count = Exactly;
+    const BITS: u8 = 2;
 
-    const BITS: Self::Width = Exactly;
+    ghost LIMIT = { 10 };
 
-    const LIMIT: Self::Most = Exactly;
+    const LIMIT: usize = 10;
 
     // the model obeys the laws
     ghost lawful = { lawful_three };
 
-    ghost levels = { Prim.search rules };
+    ghost levels = { refl };
 
-    ghost bits = { Prim.search rules };
+    ghost bits = { refl };
 
-    ghost limit = { Prim.search rules };
+    ghost limit = { refl };
 
     fn legal(n: u8, word: u64) -> bool {
         within(Self::BITS, n, word) && word & (word >> 1) & LOW == 0

@@ -1,10 +1,9 @@
 // Two levels: one bit a factor, and the sum is exclusive or.
+ghost use Rattle.std.specs.Prelude.{refl};
 ghost use Rattle.levels.specs.Arithmetic.{two};
 ghost use Rattle.levels.specs.Lawful.{lawful_two};
-ghost use Rattle.std.proofs.Common.{rules};
 
 use crate::arithmetic::{Levels, within};
-use crate::number::Exactly;
 
 #[derive(Clone, Copy)]
 pub struct TwoLevels;
@@ -12,26 +11,26 @@ pub struct TwoLevels;
 impl Levels for TwoLevels {
     ghost model = { two };
 
-    type Count = Exactly<2>;
+    ghost LEVELS = { 2 };
 
-    type Width = Exactly<1>;
+    const LEVELS: u8 = 2;
 
-    type Most = Exactly<16>;
+    ghost BITS = { 1 };
 
-    const LEVELS: Self::Count = Exactly;
+    const BITS: u8 = 1;
 
-    const BITS: Self::Width = Exactly;
+    ghost LIMIT = { 16 };
 
-    const LIMIT: Self::Most = Exactly;
+    const LIMIT: usize = 16;
 
     // the model obeys the laws
     ghost lawful = { lawful_two };
 
-    ghost levels = { Prim.search rules };
+    ghost levels = { refl };
 
-    ghost bits = { Prim.search rules };
+    ghost bits = { refl };
 
-    ghost limit = { Prim.search rules };
+    ghost limit = { refl };
 
     fn legal(n: u8, word: u64) -> bool {
         within(Self::BITS, n, word)

@@ -1,22 +1,14 @@
-use Rattle.std.proofs.Common.{◌≡◌, ◌+◌, ◌*◌, ◌≤◌, ◌++◌, map, length, take}
+use Rattle.std.proofs.Common.{◌≡◌, ◌++◌, map, take}
+use Rattle.bounded.specs.Items.{items_of}
 use Rattle.levels.specs.Words.{word_sum}
 use Rattle.levels.specs.Alias.{multiples_below}
 use Rattle.levels.proofs.span.spread.Given as goal
 
--- the front is the list once for each level so far, and begins with the list
+-- the sums are the list once for each level so far
 abbrev pub invariant-loop-level : goal.invariant-loop-level
-invariant-loop-level g l =
-    (l.end ≡ l.width * l.level)
-    × (take l.end l.leaves ≡ multiples_below g.L.Levels.model l.n l.level l.word (take l.width l.initial.leaves))
-    × (take l.width l.leaves ≡ take l.width l.initial.leaves)
-    × (length l.leaves ≡ 64)
+invariant-loop-level g l = items_of l.sums ≡ multiples_below g.L.Levels.model l.n l.level l.word (items_of l.fn.sums)
 
--- behind the front, which has room for them, stand the sums of the multiple and the words so far
+-- behind them stand the sums of the multiple and the list so far
 abbrev pub invariant-loop-i : goal.invariant-loop-i
 invariant-loop-i g l =
-    (l.end ≡ l.initial.end + l.i)
-    × (take l.end l.leaves ≡ take l.initial.end l.initial.leaves ++ map (word_sum g.L.Levels.model l.n l.multiple) (take l.i l.initial.leaves))
-    × (take l.width l.leaves ≡ take l.width l.initial.leaves)
-    × (length l.leaves ≡ 64)
-    × (l.width ≤ l.initial.end)
-    × (l.initial.end + l.width ≤ 64)
+    items_of l.sums ≡ multiples_below g.L.Levels.model l.n l.level l.word (items_of l.fn.sums) ++ map (word_sum g.L.Levels.model l.n l.multiple) (take l.i (items_of l.fn.sums))

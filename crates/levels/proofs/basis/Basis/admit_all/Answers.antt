@@ -1,12 +1,8 @@
-use Rattle.std.proofs.lemmas.List.{take_more, take_all}
+use Rattle.std.proofs.lemmas.List.{take_more}
 use Rattle.std.proofs.Common.{get_or, take}
 use Rattle.levels.specs.Rows.{basis_rows}
-use Rattle.levels.proofs.Growth.{extended_none, extended_more}
+use Rattle.levels.proofs.Growth.{extended_more}
 use Rattle.levels.proofs.basis.Basis.admit_all.Goals as goal
-
--- no word leaves the rows as they are
-pub loop-word-init : goal.loop-word-init
-loop-word-init g c = extended_none g.L.Levels.model g.met.L.Levels.lawful c.args.n (basis_rows c.args.self.now)
 
 -- one word more
 pub loop-word-preserved : goal.loop-word-preserved
@@ -16,7 +12,3 @@ loop-word-preserved g c =
     rw (take_more ws i 0 c.loop-word-test.true)
     (extended_more g.L.Levels.model g.met.L.Levels.lawful c.args.n (basis_rows c.args.self.now) (take i ws) (basis_rows c.loop-word.self)
     (get_or ws i 0) (basis_rows c.admit.new.self) c.loop-word.invariant c.admit.ensures.extended)
-
--- at the end all words are admitted
-pub returns : goal.returns
-returns g c = rw (take_all c.loop-word.word-index c.args.words.now c.loop-word-test.false) at c.loop-word.invariant
