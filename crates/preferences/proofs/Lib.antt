@@ -1,3 +1,2 @@
-pub mod Legal
 pub mod Points
 pub mod Widths

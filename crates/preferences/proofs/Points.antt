@@ -1,7 +1,7 @@
 -- What the scores of words are: bounded, 0 for an illegal code, and the smaller is better.
-use Rattle.std.proofs.Common.{◌≡◌, ℕ, suc, ◌+◌, ◌-◌, ◌*◌, ◌/◌, ◌%◌, ◌^◌, ◌<◌, ◌≤◌, cond, eqb, ◌⊎◌, List, [], ◌∷◌, length, get_or, drop, sym, refl, ap, ◌∙◌, inl, inr, arith}
+use Rattle.std.proofs.Common.{◌≡◌, ℕ, suc, ◌+◌, ◌-◌, ◌*◌, ◌/◌, ◌%◌, ◌^◌, ◌<◌, ◌≤◌, cond, eqb, ◌⊎◌, List, [], ◌∷◌, length, get_or, drop, refl, ap, ◌∙◌, inl, inr, arith}
 use Rattle.std.proofs.lemmas.List.{at_drop_more, at_drop_all}
-use Rattle.std.proofs.lemmas.Bool.{cond_both, cond-false, eq-eqb, ne_eqb}
+use Rattle.std.proofs.lemmas.Bool.{cond_both, cond-false}
 use Rattle.levels.specs.Arithmetic.{Arithmetic}
 use Rattle.levels.specs.Words.{legal, digits, word_length}
 use Rattle.levels.proofs.Lengths.{length_most}
@@ -58,10 +58,3 @@ cost_turn A costs n i w next total more whole within below e f inv =
     let step = cost_step A costs n i w within below in
     let rest = ap (λ v. cost (drop (i + 1) costs) (digits A (n - (i + 1)) v)) e in
     omega arith
-
--- the cost of factor i counts if its digit is not 0
-pub counted : (d total more c : ℕ) → (d ≡ 0 → ⊥) → more ≡ total + c → more ≡ total + cond (eqb d 0) 0 c
-counted d total more c ne e = e ∙ sym (ap (λ b. total + cond b 0 c) (ne_eqb d 0 ne))
-
-pub skipped : (d total more c : ℕ) → d ≡ 0 → more ≡ total → more ≡ total + cond (eqb d 0) 0 c
-skipped d total more c z e = let f : total + 0 ≡ total + cond (eqb d 0) 0 c = sym (ap (λ b. total + cond b 0 c) (eq-eqb d 0 z)) in omega arith

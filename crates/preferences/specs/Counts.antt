@@ -1,8 +1,10 @@
 -- Lists of counts in the order of their first difference, and the counts of alias sets and of tallies.
-use Rattle.std.specs.Prelude.{◌≡◌, ℕ, zero, suc, ◌+◌, ◌-◌, ◌*◌, ◌%◌, ◌^◌, ◌<◌, ◌≤◌, true, false, cond, ◌&&◌, leb, ◌⊎◌, List, [], ◌∷◌, ◌++◌, map, length, take, drop, ◌==◌, ◌≢◌, nat_eq, nat_le, nat_lt, slice_index, slice_index_or, refl}
+use Rattle.std.specs.Prelude.{◌≡◌, ℕ, zero, suc, ◌+◌, ◌-◌, ◌*◌, ◌%◌, ◌^◌, ◌<◌, ◌≤◌, true, false, cond, ◌&&◌, leb, ◌⊎◌, List, [], ◌∷◌, ◌++◌, map, length, ◌==◌, ◌≢◌, nat_eq, nat_le, nat_lt, slice_index, slice_index_or, refl}
+use Rattle.std.specs.Ordering.{nat_cmp}
+use Rattle.std.specs.Cmp.Lexicographic.{slice_cmp}
 use Rattle.std.proofs.Common.{sym, ◌∙◌, ap, subst, inl, inr, arith, zero-add, add-zero, suc-add, mod-eq_of_lt}
 use Rattle.std.proofs.Math.Nat.{mul-lt-mul_of_pos_left, pow-le-pow_right}
-use Rattle.std.proofs.lemmas.List.{length-map, ext_get_or, take_rest}
+use Rattle.std.proofs.lemmas.List.{length-map, ext_get_or}
 use Rattle.std.proofs.lemmas.Bool.{cases_order, eq-eqb, ne_eqb, lt-ltb, le-ltb, le-leb, lt-leb, leb-true, cases_Bool, both_ways, and_parts, and_right, cond-true, cond-false}
 use Rattle.levels.specs.Arithmetic.{Arithmetic, Lawful}
 use Rattle.levels.specs.Words.{legal, code, digits, zip_with, word_sum, word_length}
@@ -18,7 +20,7 @@ use Rattle.levels.proofs.Ascending.{how_many_none, how_many_most}
 use Rattle.levels.proofs.Multiplicity.{in_alias_set_from, same_alias_set, aliases_times, repeats_positive}
 use Rattle.preferences.specs.Relation.{fair, all_legal, PreferenceLaws}
 use Rattle.preferences.specs.Built.{no_more, length_counts, tallies, all_tallies, least_aberration}
-use Rattle.preferences.specs.Verdicts.{verdict, verdict_of}
+use Rattle.preferences.specs.Verdicts.{of_order, verdict, verdict_of}
 use Rattle.preferences.specs.declared.preference.Verdict.TheVariants.{Equal}
 
 -- lists that begin with the same count differ in the rest
@@ -249,23 +251,17 @@ differ_at (x ∷ xs) (y ∷ ys) zero lx ly same ne =
 differ_at (x ∷ xs) (y ∷ ys) (suc i) lx ly same ne =
     same_first x y xs ys (same 0 (omega arith)) ∙ differ_at xs ys i (omega arith) (omega arith) (λ k l. same (suc k) (omega arith)) ne
 
--- without counts there is no difference
-pub no_counts_verdict : (xs ys : List ℕ) → length xs < 1 → Equal ≡ verdict_of (no_more xs ys) (no_more ys xs)
-no_counts_verdict [] [] e = refl
-no_counts_verdict [] (y ∷ ys) e = refl
-no_counts_verdict (x ∷ xs) ys e = let wrong : ⊥ = omega arith in elim wrong [ ]
-
--- lists that begin with the same count are judged by the rest
-pub same_head_verdict : (xs ys : List ℕ) → 0 < length xs → 0 < length ys → slice_index xs 0 ≡ slice_index ys 0 →
-    verdict_of (no_more (take (length xs - 1) (drop 1 xs)) (take (length ys - 1) (drop 1 ys))) (no_more (take (length ys - 1) (drop 1 ys)) (take (length xs - 1) (drop 1 xs))) ≡ verdict_of (no_more xs ys) (no_more ys xs)
-same_head_verdict [] ys la lb e = let wrong : ⊥ = omega arith in elim wrong [ ]
-same_head_verdict (x ∷ xs) [] la lb e = let wrong : ⊥ = omega arith in elim wrong [ ]
-same_head_verdict (x ∷ xs) (y ∷ ys) la lb e =
-    let rx : take (length (x ∷ xs) - 1) (drop 1 (x ∷ xs)) ≡ xs = take_rest (x ∷ xs) 1 in
-    let ry : take (length (y ∷ ys) - 1) (drop 1 (y ∷ ys)) ≡ ys = take_rest (y ∷ ys) 1 in
-    let there = same_first x y xs ys e in
-    let back = same_first y x ys xs (sym e) in
-    cc
+-- lists of one length are in the library's order of lists
+pub counts_verdict : (xs ys : List ℕ) → length xs ≡ length ys → of_order (slice_cmp nat_cmp xs ys) ≡ verdict_of (no_more xs ys) (no_more ys xs)
+counts_verdict [] [] e = refl
+counts_verdict [] (y ∷ ys) e = let wrong : ⊥ = omega arith in elim wrong [ ]
+counts_verdict (x ∷ xs) [] e = let wrong : ⊥ = omega arith in elim wrong [ ]
+counts_verdict (x ∷ xs) (y ∷ ys) e =
+    elim (cases_order x y) [
+      | inl same ↦ grind (arith, counts_verdict xs ys (omega arith))
+      | inr (inl l) ↦ grind arith
+      | inr (inr l) ↦ grind arith
+    ]
 
 -- at place j of the counts from length i on stands that of length i + j
 pub counts_at : (A : Arithmetic) (ws : List ℕ) (i k j : ℕ) → j < k → slice_index (length_counts A ws i k) j ≡ of_length A (i + j) ws

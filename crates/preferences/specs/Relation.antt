@@ -1,5 +1,6 @@
 -- What a preference means: a relation "at least as good" between words, for n factors and a base list of words.
-use Rattle.std.specs.Prelude.{◌≡◌, ℕ, Bool, true, cond, not, ◌&&◌, ◌⊎◌, List, [], ◌∷◌, length, nat_le}
+use Rattle.std.specs.Prelude.{◌≡◌, ℕ, Bool, true, cond, not, ◌&&◌, ◌⊎◌, List, length, nat_le}
+use Rattle.std.specs.List.{list_all}
 use Rattle.levels.specs.Arithmetic.{Arithmetic}
 use Rattle.levels.specs.Words.{legal}
 use Rattle.levels.specs.Space.{Word}
@@ -11,8 +12,7 @@ Relation = ℕ → List ℕ → ℕ → ℕ → Bool
 
 -- every word of a list is legal
 abbrev pub all_legal : Arithmetic → ℕ → List ℕ → Bool
-all_legal A n [] = true
-all_legal A n (w ∷ ws) = legal A n w && all_legal A n ws
+all_legal A n = list_all (legal A n)
 
 -- a base list that a preference judges by: legal words, no more than the limit
 abbrev pub fair : Arithmetic → ℕ → List ℕ → Bool

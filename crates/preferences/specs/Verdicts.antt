@@ -4,8 +4,16 @@ use Rattle.levels.specs.Arithmetic.{Arithmetic}
 use Rattle.levels.specs.Words.{legal}
 use Rattle.levels.specs.Space.{Word}
 use Rattle.preferences.specs.Relation.{Relation, fair}
+use Rattle.std.specs.declared.cmp.Ordering.{Ordering}
+use Rattle.std.specs.declared.cmp.Ordering.TheVariants.{Less, Greater, Equal as Alike}
 use Rattle.preferences.specs.declared.preference.Verdict.{Verdict}
 use Rattle.preferences.specs.declared.preference.Verdict.TheVariants.{First, Second, Equal}
+
+-- the verdict on two words, from the order of two numbers that they have: what is less is better
+abbrev pub of_order : Ordering → Verdict
+of_order Less = First
+of_order Greater = Second
+of_order Alike = Equal
 
 -- the verdict on two words, from whether each is at least as good as the other
 abbrev pub verdict_of : Bool → Bool → Verdict

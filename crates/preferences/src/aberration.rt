@@ -1,5 +1,6 @@
 // Least aberration: at the smallest length where the alias sets differ in their number of words, fewer is better.
 ghost use Rattle.std.specs.Prelude.{◌≡◌, nat_le};
+ghost use Rattle.levels.specs.Space.{Word};
 ghost use Rattle.levels.specs.Words.{word_length};
 ghost use Rattle.preferences.specs.Built.{least_aberration, no_more, all_tallies};
 ghost use Rattle.preferences.specs.Verdicts.{verdict_of};
@@ -7,7 +8,7 @@ ghost use Rattle.preferences.specs.Counts.{least_aberration_laws};
 
 use crate::preference::{Preference, Verdict, judged, smaller};
 use levels::Levels;
-use levels::span::{Tally, tally};
+use levels::span::{LENGTHS, tally_both};
 
 #[derive(Clone, Copy)]
 pub struct LeastAberration;
@@ -38,31 +39,12 @@ fn longer<L: Levels>(a: u64, b: u64) -> Verdict
 
 // Of two words, the one whose aliases have fewer of the first length in which they differ.
 fn fewer<L: Levels>(n: u8, base: &[u64], a: u64, b: u64) -> Verdict
+    requires first { Word L.Levels.model n a }
+    requires second { Word L.Levels.model n b }
     ensures { result ≡ verdict_of (no_more (all_tallies L.Levels.model n base.now a) (all_tallies L.Levels.model n base.now b)) (no_more (all_tallies L.Levels.model n base.now b) (all_tallies L.Levels.model n base.now a)) }
 {
-    first_difference(&aliases::<L>(n, base, a), &aliases::<L>(n, base, b))
-}
-
-// How many aliases of a word there are of each length: one for each choice of levels.
-fn aliases<L: Levels>(n: u8, base: &[u64], word: u64) -> Tally
-    ensures { result ≡ all_tallies L.Levels.model n base.now word }
-{
-    tally::<L>(n, base, word)
-}
-
-// At the first place where two lists of counts differ, the smaller count is better.
-fn first_difference(a: &[u64], b: &[u64]) -> Verdict
-    ensures { result ≡ verdict_of (no_more a.now b.now) (no_more b.now a.now) }
-{
-    let [x, xs @ ..] = a else {
-        return Verdict::Equal;
-    };
-    let [y, ys @ ..] = b else {
-        return Verdict::Equal;
-    };
-    if *x == *y {
-        first_difference(xs, ys)
-    } else {
-        smaller(*x, *y)
-    }
+    let mut firsts = [0; LENGTHS];
+    let mut seconds = [0; LENGTHS];
+    tally_both::<L>(n, base, a, b, &mut firsts, &mut seconds);
+    Verdict::from(firsts.cmp(&seconds))
 }

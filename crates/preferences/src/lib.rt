@@ -1,4 +1,5 @@
 // Preferences between words: which of two is better, given the words of a base list.
+// n, the base list and the two words stay parameters here: the question of the interface is asked of them all.
 #![tactic(auto)]
 
 pub mod aberration;

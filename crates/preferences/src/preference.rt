@@ -1,13 +1,13 @@
 // A preference as an interface: one question about two words.
-ghost use Rattle.std.specs.Prelude.{◌≡◌, ℕ, ◌&&◌, nat_le};
+ghost use Rattle.std.specs.Prelude.{◌≡◌, ℕ, true, false, ◌&&◌, nat_le};
 ghost use Rattle.levels.specs.Words.{legal};
 ghost use Rattle.preferences.specs.Relation.{Relation, PreferenceLaws, all_legal, fair};
-ghost use Rattle.preferences.specs.Verdicts.{verdict, verdict_of, turned, Scores};
+ghost use Rattle.preferences.specs.Verdicts.{of_order, verdict, verdict_of, turned, Scores};
 
 use levels::Levels;
-use levels::number::Number;
+use std::cmp::Ordering;
 
-// Which of two words is better.
+// Which of two words is better. An own enum: its names are the public ones of the field, and an Ordering converts to it.
 #[derive(Clone, Copy, PartialEq, Eq, Debug)]
 pub enum Verdict {
     First,
@@ -15,8 +15,21 @@ pub enum Verdict {
     Equal,
 }
 
+// What is less is better.
+impl From<Ordering> for Verdict {
+    ghost from_gives = { λ order verdict. verdict ≡ of_order order };
+
+    fn from(order: Ordering) -> Verdict {
+        match order {
+            Ordering::Less => Verdict::First,
+            Ordering::Greater => Verdict::Second,
+            Ordering::Equal => Verdict::Equal,
+        }
+    }
+}
+
 impl Verdict {
-    // The verdict on the two words in the other order.
+    // The verdict on the two words in the other order. By hand: a reversed Ordering would need two conversions.
     pub fn turned(self) -> Verdict
         ensures { result ≡ turned self }
     {
@@ -54,33 +67,48 @@ pub trait Scored<L: Levels>: Preference<L> {
 pub fn judged<L: Levels>(n: u8, base: &[u64], a: u64, b: u64) -> bool
     ensures { result ≡ (fair L.Levels.model n base.now && (legal L.Levels.model n a && legal L.Levels.model n b)) }
 {
-    base.len() <= L::LIMIT.get() as usize
-        && all_legal::<L>(n, base)
-        && L::legal(n, a)
-        && L::legal(n, b)
+    base.len() <= L::LIMIT && all_legal::<L>(n, base) && L::legal(n, a) && L::legal(n, b)
 }
 
 // Whether every word of a list is legal.
 pub fn all_legal<L: Levels>(n: u8, words: &[u64]) -> bool
     ensures { result ≡ all_legal L.Levels.model n words.now }
 {
-    for word in words {
-        if !L::legal(n, *word) {
-            return false;
-        }
-    }
-    true
+    words.iter().all(|word| L::legal(n, *word))
 }
 
 // The smaller of two numbers is better.
 pub fn smaller(a: u64, b: u64) -> Verdict
     ensures { result ≡ verdict_of (nat_le a b) (nat_le b a) }
 {
-    if a < b {
-        Verdict::First
-    } else if b < a {
-        Verdict::Second
-    } else {
-        Verdict::Equal
+    Verdict::from(a.cmp(&b))
+}
+
+// Where there is anything to judge, the word that counts less is better.
+#[inline]
+pub(crate) fn fewer_counts<L: Levels, F: Fn(u64) -> u32>(
+    n: u8,
+    base: &[u64],
+    a: u64,
+    b: u64,
+    count: F,
+) -> Verdict
+    requires { F.IsAlwaysCallable count }
+    ensures judged { (fair L.Levels.model n base.now && (legal L.Levels.model n a && legal L.Levels.model n b)) ≡ true → (x : ℕ) × (y : ℕ) × F.post count a x × F.post count b y × (result ≡ verdict_of (nat_le x y) (nat_le y x)) }
+    ensures otherwise { (fair L.Levels.model n base.now && (legal L.Levels.model n a && legal L.Levels.model n b)) ≡ false → result ≡ Verdict.Equal }
+{
+    if !judged::<L>(n, base, a, b) {
+        return Verdict::Equal;
     }
+    Verdict::from(count(a).cmp(&count(b)))
+}
+
+// What a legal word counts; 0 for an illegal code.
+#[inline]
+pub(crate) fn count_if_legal<L: Levels, F: FnOnce(u64) -> u32>(n: u8, word: u64, count: F) -> u32
+    requires { F.IsAlwaysCallable count }
+    ensures legal { legal L.Levels.model n word ≡ true → F.post count word result }
+    ensures illegal { legal L.Levels.model n word ≡ false → result ≡ 0 }
+{
+    if L::legal(n, word) { count(word) } else { 0 }
 }

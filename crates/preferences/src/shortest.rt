@@ -3,7 +3,7 @@ ghost use Rattle.std.specs.Prelude.{◌≡◌};
 ghost use Rattle.preferences.specs.Built.{shortest, length_score};
 ghost use Rattle.std.proofs.Common.{rules};
 
-use crate::preference::{Preference, Scored, Verdict, judged, smaller};
+use crate::preference::{Preference, Scored, Verdict, count_if_legal, fewer_counts};
 use levels::Levels;
 
 #[derive(Clone, Copy)]
@@ -15,11 +15,7 @@ impl<L: Levels> Preference<L> for Shortest {
     ghost lawful = { Prim.search rules };
 
     fn compare(&self, n: u8, base: &[u64], a: u64, b: u64) -> Verdict {
-        if judged::<L>(n, base, a, b) {
-            smaller(L::length(a) as u64, L::length(b) as u64)
-        } else {
-            Verdict::Equal
-        }
+        fewer_counts::<L, _>(n, base, a, b, |word| u32::from(L::length(word)))
     }
 }
 
@@ -27,17 +23,6 @@ impl<L: Levels> Scored<L> for Shortest {
     ghost points = { λ self. length_score L.Levels.model };
 
     fn score(&self, n: u8, word: u64) -> u32 {
-        length_score::<L>(n, word)
-    }
-}
-
-// The length of a word of n factors; 0 for an illegal code.
-fn length_score<L: Levels>(n: u8, word: u64) -> u32
-    ensures { result ≡ length_score L.Levels.model n word }
-{
-    if L::legal(n, word) {
-        L::length(word) as u32
-    } else {
-        0
+        count_if_legal::<L, _>(n, word, |word| u32::from(L::length(word)))
     }
 }

@@ -14,5 +14,5 @@ mask_whole word k b e small =
 -- all bits of a digit, and no others
 pub returns : goal.returns
 returns g c =
-    let e = c.get.ensures ∙ g.met.L.Levels.bits in
-    mask_whole c.args.word c.get.result g.L.Levels.model.bits e (narrow g.L.Levels.model g.met.L.Levels.lawful c.get.result e)
+    let e = c.BITS.ensures ∙ g.met.L.Levels.bits in
+    mask_whole c.args.word c.BITS.result g.L.Levels.model.bits e (narrow g.L.Levels.model g.met.L.Levels.lawful c.BITS.result e)

@@ -3,5 +3,5 @@ use Rattle.preferences.proofs.Points.{cost_scores}
 use Rattle.preferences.proofs.cheapest.CheapestScored.score.Goals as goal
 
 -- costs are scores
-pub returns : goal.returns
-returns g c = record { value = c.cost_score.ensures.value; ranks = cost_scores g.L.Levels.model c.args.self.now.costs (omega arith) c.cost_score.ensures.table }
+pub returns-clause-ranks : goal.returns-clause-ranks
+returns-clause-ranks g c = cost_scores g.L.Levels.model c.args.self.now.costs (omega arith) c.args.self.now.small

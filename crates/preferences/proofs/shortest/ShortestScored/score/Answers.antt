@@ -2,5 +2,5 @@ use Rattle.preferences.proofs.Points.{length_scores}
 use Rattle.preferences.proofs.shortest.ShortestScored.score.Goals as goal
 
 -- lengths are scores
-pub returns : goal.returns
-returns g c = record { value = c.length_score.ensures; ranks = length_scores g.L.Levels.model }
+pub returns-clause-ranks : goal.returns-clause-ranks
+returns-clause-ranks g c = length_scores g.L.Levels.model
