@@ -1,7 +1,8 @@
 -- The words that the search goes through are the fresh words.
-use Rattle.std.proofs.Common.{◌≡◌, ℕ, zero, suc, ◌+◌, ◌-◌, ◌<◌, ◌≤◌, Bool, false, List, [], ◌∷◌, ◌++◌, length, get_or, take, drop, Some, None, Option, sym, refl, ap, ◌∙◌, subst, inl, inr, add-one, arith}
+use Rattle.std.proofs.Common.{◌≡◌, ℕ, zero, suc, ◌+◌, ◌<◌, ◌≤◌, Bool, false, List, [], ◌∷◌, ◌++◌, length, get_or, take, drop, Some, None, Option, sym, refl, ap, ◌∙◌, subst, inl, inr, add-one, arith}
 use Rattle.std.proofs.lemmas.Bool.{cases_eq, cases_lt, both_ways}
-use Rattle.std.proofs.lemmas.List.{append-nil, drop-drop, get_or_past, take_all, take-append-drop, take_more, take_rest, take-take}
+use Rattle.std.proofs.lemmas.List.{append-nil, get_or_past, take_all, take-append-drop, take_more, take-take}
+use Rattle.std.specs.Option.{MatchOption}
 use Rattle.levels.specs.Arithmetic.{Arithmetic, Lawful}
 use Rattle.levels.specs.Words.{legal, word_sum, word_multiple, code_sum}
 use Rattle.levels.specs.Space.{Word, AllWords, VectorSpace}
@@ -18,15 +19,9 @@ use Rattle.levels.proofs.Leaves.{multiple_legal, sum_legal, code_legal}
 use Rattle.levels.proofs.Reduced.{space_at}
 use Rattle.choice.specs.Choice.{best}
 use Rattle.preferences.specs.Relation.{Relation, PreferenceLaws, judged}
-use Rattle.choice.specs.Search.{better_of, either_of, Below, Coset, Leaf, LedBy, Led, LedAt, Top, TopOf}
+use Rattle.choice.specs.Search.{better_of, Below, Coset, Leaf, Spread, LedBy, Led, LedAt, Top, TopOf}
 use Rattle.choice.proofs.Tops.{top_more, top_of_more, top_one, top_same}
 use Rattle.choice.proofs.Greedy.{Order, fresh, next_is, next_none}
-
--- the rows behind so many of all are those behind one fewer of the rest
-pub rest_behind : (rows : List ℕ) (before : ℕ) → 0 < before → drop (before - 1) (take (length rows - 1) (drop 1 rows)) ≡ drop before rows
-rest_behind rows before some =
-    let next : 1 + (before - 1) ≡ before = omega arith in
-    ap (drop (before - 1)) (take_rest rows 1) ∙ drop-drop (before - 1) 1 rows ∙ ap (λ k. drop k rows) next
 
 module _ (A : Arithmetic) (L : Lawful A) (n : ℕ) where
   -- a sum of a word and multiples is a word
@@ -76,6 +71,18 @@ module _ (A : Arithmetic) (L : Lawful A) (n : ℕ) (V : VectorSpace A n) where
       let p = coset_from rows start w hs h in
       let at : In p.0 leaves = subst (In p.0) (sym e) (any_combination A L n (vector_space A L n) rows p.0 p.1) in
       (at.0, at.1, p.2 ∙ ap (word_sum A n start) (sym at.2))
+
+  -- the same of multiples of further words before them
+  pub spread_coset : (words rows leaves : List ℕ) (start : ℕ) → Word A n start → leaves ≡ combinations A n rows → (w : ℕ) → Spread A n words leaves start w → Coset A n (words ++ rows) start w
+  spread_coset [] rows leaves start hs e w h = leaves_coset rows leaves start hs e w h
+  spread_coset (v ∷ vs) rows leaves start hs e w h =
+      (h.0, h.1, spread_coset vs rows leaves (word_sum A n start (word_multiple A n h.0 v)) (sum_legal A L n h.0 v start hs) e w h.2)
+
+  -- and back
+  pub coset_spread : (words rows leaves : List ℕ) (start : ℕ) → Word A n start → leaves ≡ combinations A n rows → (w : ℕ) → Coset A n (words ++ rows) start w → Spread A n words leaves start w
+  coset_spread [] rows leaves start hs e w h = coset_leaves rows leaves start hs e w h
+  coset_spread (v ∷ vs) rows leaves start hs e w h =
+      (h.0, h.1, coset_spread vs rows leaves (word_sum A n start (word_multiple A n h.0 v)) (sum_legal A L n h.0 v start hs) e w h.2)
 
   -- there is at least one such sum
   pub leaves_some : (rows leaves : List ℕ) → leaves ≡ combinations A n rows → 0 < length leaves
@@ -160,34 +167,41 @@ module _ (A : Arithmetic) (L : Lawful A) (n : ℕ) (at_least : ℕ → ℕ → B
   pub found : (o : Option ℕ) → TopOf at_least (Below (length rows) (LedAt A n rows k)) o → o ≡ best at_least (fresh A n (known ++ further) known)
   found = elim (in_range_or_none A n) [ inl r ↦ found_in_range (vector_space A L n r.0 r.1) | inr z ↦ found_out_of_range z ]
 
-module _ (A : Arithmetic) (L : Lawful A) (good : Relation) (laws : PreferenceLaws A good) (n : ℕ) (base : List ℕ) (level v start next : ℕ) (word : Word A n start) (is : next ≡ word_sum A n start (word_multiple A n level v)) where
-  -- the sums by one level more
-  pub coset_more : (rest : List ℕ) (a b r : ℕ) → r ≡ better_of A good n base a b → Top (judged A good n base) (Below level (λ c. Coset A n rest (word_sum A n start (word_multiple A n c v)))) a → Top (judged A good n base) (Coset A n rest next) b → Top (judged A good n base) (Below (level + 1) (λ c. Coset A n rest (word_sum A n start (word_multiple A n c v)))) r
-  coset_more rest a b r e ta tb =
-      subst (Top (judged A good n base) (Below (level + 1) (λ c. Coset A n rest (word_sum A n start (word_multiple A n c v))))) (sym e)
-      (top_more A good laws n base level (λ c. Coset A n rest (word_sum A n start (word_multiple A n c v)))
-      (λ c y. coset_word A L n rest (word_sum A n start (word_multiple A n c v)) y (sum_legal A L n c v start word))
-      a b ta (subst (λ x. Top (judged A good n base) (Coset A n rest x) b) is tb))
-
-module _ (A : Arithmetic) (L : Lawful A) (good : Relation) (laws : PreferenceLaws A good) (n : ℕ) (base : List ℕ) (leaves : List ℕ) (start : ℕ) (word : Word A n start) (words : AllWords A n leaves) where
-  -- the sum with what stands at any place is a word
-  leaf_word : (k y : ℕ) → Leaf A n leaves start k y → Word A n y
-  leaf_word k y e =
+module _ (A : Arithmetic) (L : Lawful A) (n : ℕ) (leaves : List ℕ) (words : AllWords A n leaves) where
+  -- the sum of a word and what stands at any place is a word
+  leaf_word : (start : ℕ) → Word A n start → (k y : ℕ) → Leaf A n leaves start k y → Word A n y
+  leaf_word start word k y e =
       let V = space_at A L n start word in
       let leaf : Word A n (get_or leaves k 0) = elim (cases_lt k (length leaves)) [ inl l ↦ words k l | inr g ↦ subst (Word A n) (sym (get_or_past leaves k 0 g)) V.zero_word ] in
       subst (Word A n) (sym e) (V.sum_word start (get_or leaves k 0) word leaf)
+
+  -- so is the sum with multiples of codes too
+  spread_word : (vs : List ℕ) (start y : ℕ) → Word A n start → Spread A n vs leaves start y → Word A n y
+  spread_word [] start y word h = leaf_word start word h.0 y h.2
+  spread_word (v ∷ vs) start y word h = spread_word vs (word_sum A n start (word_multiple A n h.0 v)) y (sum_legal A L n h.0 v start word) h.2
+
+module _ (A : Arithmetic) (L : Lawful A) (good : Relation) (laws : PreferenceLaws A good) (n : ℕ) (base : List ℕ) (leaves : List ℕ) (start : ℕ) (word : Word A n start) (words : AllWords A n leaves) where
+  -- the sums by one level more
+  pub spread_more : (level v next : ℕ) → next ≡ word_sum A n start (word_multiple A n level v) → (rest : List ℕ) (a b r : ℕ) → r ≡ better_of A good n base a b →
+      Top (judged A good n base) (Below level (λ c. Spread A n rest leaves (word_sum A n start (word_multiple A n c v)))) a → Top (judged A good n base) (Spread A n rest leaves next) b →
+      Top (judged A good n base) (Below (level + 1) (λ c. Spread A n rest leaves (word_sum A n start (word_multiple A n c v)))) r
+  spread_more level v next is rest a b r e ta tb =
+      subst (Top (judged A good n base) (Below (level + 1) (λ c. Spread A n rest leaves (word_sum A n start (word_multiple A n c v))))) (sym e)
+      (top_more A good laws n base level (λ c. Spread A n rest leaves (word_sum A n start (word_multiple A n c v)))
+      (λ c y. spread_word A L n leaves words rest (word_sum A n start (word_multiple A n c v)) y (sum_legal A L n c v start word))
+      a b ta (subst (λ x. Top (judged A good n base) (Spread A n rest leaves x) b) is tb))
 
   -- the sum with one leaf alone
   pub leaf_alone : (k sum : ℕ) → k < length leaves → sum ≡ code_sum A start (get_or leaves k 0) → Top (judged A good n base) (Leaf A n leaves start k) sum
   leaf_alone k sum l e =
       let is : sum ≡ word_sum A n start (get_or leaves k 0) = e ∙ sym (sum_code A L n start (get_or leaves k 0) word (words k l)) in
-      subst (λ v. Top (judged A good n base) (λ y. y ≡ v) sum) is (top_one A good laws n base sum (leaf_word k sum is))
+      subst (λ v. Top (judged A good n base) (λ y. y ≡ v) sum) is (top_one A good laws n base sum (leaf_word A L n leaves words start word k sum is))
 
   -- the sums with one leaf more
   pub leaf_more : (k a sum r : ℕ) → k < length leaves → sum ≡ code_sum A start (get_or leaves k 0) → r ≡ better_of A good n base a sum → Top (judged A good n base) (Below k (Leaf A n leaves start)) a → Top (judged A good n base) (Below (k + 1) (Leaf A n leaves start)) r
   leaf_more k a sum r l e b t =
       subst (Top (judged A good n base) (Below (k + 1) (Leaf A n leaves start))) (sym b)
-      (top_more A good laws n base k (Leaf A n leaves start) leaf_word a sum t (leaf_alone k sum l e))
+      (top_more A good laws n base k (Leaf A n leaves start) (leaf_word A L n leaves words start word) a sum t (leaf_alone k sum l e))
 
 module _ (A : Arithmetic) (L : Lawful A) (good : Relation) (laws : PreferenceLaws A good) (n : ℕ) (base : List ℕ) (rows : List ℕ) (lead : ℕ) (word : Word A n lead) where
   -- a word that is led is a word
@@ -215,12 +229,11 @@ module _ (A : Arithmetic) (L : Lawful A) (good : Relation) (laws : PreferenceLaw
 
 module _ (A : Arithmetic) (L : Lawful A) (good : Relation) (laws : PreferenceLaws A good) (n : ℕ) (base : List ℕ) (rows : List ℕ) (k : ℕ) where
   -- the words led by one row more
-  pub led_row : (i : ℕ) → k ≤ i → Word A n (get_or rows i 0) → (a r : Option ℕ) (b : ℕ) → r ≡ either_of (better_of A good n base) a (Some b) →
+  pub led_row : (i : ℕ) → k ≤ i → Word A n (get_or rows i 0) → (a : Option ℕ) (b r : ℕ) → MatchOption a (r ≡ b) (λ x. r ≡ better_of A good n base x b) →
       TopOf (judged A good n base) (Below i (LedAt A n rows k)) a → Top (judged A good n base) (Led A n (take i rows) (get_or rows i 0)) b →
-      TopOf (judged A good n base) (Below (i + 1) (LedAt A n rows k)) r
-  led_row i l word a r b is ta tb =
-      subst (TopOf (judged A good n base) (Below (i + 1) (LedAt A n rows k))) (sym is)
-      (top_of_more A good laws n base i (LedAt A n rows k)
+      Top (judged A good n base) (Below (i + 1) (LedAt A n rows k)) r
+  led_row i l word a b r is ta tb =
+      top_of_more A good laws n base i (LedAt A n rows k)
       (λ c y h. coset_word A L n (take c rows) (word_multiple A n h.1.0 (get_or rows c 0)) y (multiple_legal A L n h.1.0 (get_or rows c 0) (get_or rows i 0) word) h.1.2.1)
-      a (Some b) ta
-      (top_same (judged A good n base) (Led A n (take i rows) (get_or rows i 0)) (LedAt A n rows k i) b (λ y h. (l, h)) (λ y h. h.1) tb))
+      a b r is ta
+      (top_same (judged A good n base) (Led A n (take i rows) (get_or rows i 0)) (LedAt A n rows k i) b (λ y h. (l, h)) (λ y h. h.1) tb)

@@ -1,11 +1,12 @@
 -- What the search goes through, and what it finds.
-use Rattle.std.specs.Prelude.{◌≡◌, ◌≢◌, ℕ, ◌<◌, ◌≤◌, min, Bool, true, List, [], ◌∷◌, take, Some, None, Option, slice_index}
+use Rattle.std.specs.Prelude.{◌≡◌, ◌≢◌, ℕ, ◌<◌, ◌≤◌, min, Bool, true, List, [], ◌∷◌, length, take, Some, None, Option, slice_index}
 use Rattle.levels.specs.Arithmetic.{Arithmetic}
 use Rattle.levels.specs.Words.{word_sum, word_multiple}
-use Rattle.preferences.specs.Relation.{Relation}
+use Rattle.preferences.specs.Relation.{Relation, judged}
 use Rattle.preferences.specs.Verdicts.{verdict}
 use Rattle.preferences.specs.declared.preference.Verdict.{Verdict}
 use Rattle.preferences.specs.declared.preference.Verdict.TheVariants.{First, Second, Equal}
+use Rattle.choice.specs.declared.judge.Judge.{Judge}
 
 -- the word that a verdict is for, the smaller code among equals
 abbrev pub by_verdict : Verdict → ℕ → ℕ → ℕ
@@ -17,10 +18,9 @@ by_verdict Equal a b = min a b
 unfoldable pub better_of : Arithmetic → Relation → ℕ → List ℕ → ℕ → ℕ → ℕ
 better_of A good n base a b = by_verdict (verdict A good n base a b) a b
 
--- the better of two words that may be absent
-abbrev pub either_of : (ℕ → ℕ → ℕ) → Option ℕ → Option ℕ → Option ℕ
-either_of pick None b = b
-either_of pick (Some a) b = elim b [ None ↦ Some a | Some v ↦ Some (pick a v) ]
+-- the order by which a judge judges
+abbrev pub order_of : {L P : Type 0} → Arithmetic → (P → Relation) → Judge L P → ℕ → ℕ → Bool
+order_of A good judge = judged A (good judge.preference.now) judge.factors judge.base.now
 
 -- w is one of the words by a level below k
 abbrev pub Below : ℕ → (ℕ → ℕ → Type 0) → ℕ → Type 0
@@ -34,6 +34,11 @@ Leaf A n leaves start k w = w ≡ word_sum A n start (slice_index leaves k)
 abbrev pub Coset : Arithmetic → ℕ → List ℕ → ℕ → ℕ → Type 0
 Coset A n [] start w = w ≡ start
 Coset A n (v ∷ vs) start w = Below A.s (λ c. Coset A n vs (word_sum A n start (word_multiple A n c v))) w
+
+-- w is a sum of a start, multiples of the words and a leaf
+abbrev pub Spread : Arithmetic → ℕ → List ℕ → List ℕ → ℕ → ℕ → Type 0
+Spread A n [] leaves start w = Below (length leaves) (Leaf A n leaves start) w
+Spread A n (v ∷ vs) leaves start w = Below A.s (λ c. Spread A n vs leaves (word_sum A n start (word_multiple A n c v))) w
 
 -- w is a sum of a start, multiples of the extension and multiples of the rows, where the part without the rows is not 0
 abbrev pub Beyond : Arithmetic → ℕ → List ℕ → List ℕ → ℕ → ℕ → Type 0
