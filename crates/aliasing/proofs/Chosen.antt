@@ -1,10 +1,11 @@
 -- Runs counted by their highest levels, and a run chosen by its number, from the highest level down.
-use Rattle.std.proofs.Common.{◌≡◌, ℕ, zero, suc, ◌+◌, ◌-◌, ◌*◌, ◌/◌, ◌%◌, ◌^◌, ◌<◌, ◌≤◌, Bool, true, false, cond, ◌&&◌, eqb, ◌⊎◌, List, [], ◌∷◌, length, get_or, drop, sym, refl, ap, ◌∙◌, subst, ap₂, inl, inr, add-zero, mod-eq_of_lt, one-mul, pow-suc, zero-add, zero-mul, add-one, one-add, arith, drop-cons}
+use Rattle.std.proofs.Common.{◌≡◌, ℕ, zero, suc, ◌+◌, ◌-◌, ◌*◌, ◌/◌, ◌%◌, ◌^◌, ◌<◌, ◌≤◌, Bool, true, false, cond, ◌&&◌, eqb, ◌⊎◌, List, [], ◌∷◌, ◌++◌, filter, length, get_or, take, drop, sym, refl, ap, ◌∙◌, subst, ap₂, inl, inr, add-zero, mod-eq_of_lt, one-mul, pow-suc, zero-add, zero-mul, add-one, one-add, arith, drop-cons, length-append}
 use native.Mathlib.Nat.{zero-mod, add-mod_right}
 use lib.Bits.{bit_and, and_mask}
 use Rattle.std.proofs.lemmas.Nat.{pow_pos, pow-add, mod-pow-add, mod_low, mod_below}
-use Rattle.std.proofs.lemmas.List.{get_or-drop}
-use Rattle.std.proofs.lemmas.Bool.{and_from, cases_eq, cond_both, eqb-true, eqb-false, eq-eqb, ne_eqb}
+use Rattle.std.proofs.lemmas.List.{get_or-drop, take_more}
+use Rattle.std.proofs.lemmas.List.Elements.{filter-append}
+use Rattle.std.proofs.lemmas.Bool.{and_from, cases_eq, cond_both, cond-true, cond-false, eqb-true, eqb-false, eq-eqb, ne_eqb}
 use Rattle.levels.specs.Arithmetic.{two}
 use Rattle.levels.specs.Words.{legal}
 use Rattle.levels.specs.Space.{AllWords}
@@ -198,6 +199,17 @@ module _ (n : ℕ) (low : 1 ≤ n) (high : n ≤ 32) (ws T : List ℕ) (r : Rows
         even = good_step k x l ∙ ap₂ (λ o g. eqb o 0 && g) none c.even;
         smaller = ap (λ j. below x + m % 2 ^ j) (sym (row_step k ne)) ∙ c.smaller;
       }
+
+-- the empty ones among the first places are counted
+pub empty_count : (T : List ℕ) (k : ℕ) → k ≤ length T → length (filter (λ r. eqb r 0) (take k T)) ≡ empty_below T k
+empty_count T zero l = refl
+empty_count T (suc k) l =
+    let r = get_or T k 0 in
+    let next : take (suc k) T ≡ take k T ++ r ∷ [] = ap (λ j. take j T) (sym (add-one k)) ∙ take_more T k 0 (omega arith) in
+    let more = ap (λ xs. length (filter (λ r. eqb r 0) xs)) next ∙ ap length (filter-append (λ r. eqb r 0) (take k T) (r ∷ [])) ∙ length-append (filter (λ r. eqb r 0) (take k T)) (filter (λ r. eqb r 0) (r ∷ [])) in
+    cond_both (eqb r 0) 1 0 (λ d. length (filter (λ r. eqb r 0) (take (suc k) T)) ≡ d + empty_below T k)
+    (λ t. omega (arith, more, empty_count T k (omega arith), ap length (cond-true (eqb r 0) (r ∷ []) [] t)))
+    (λ f. omega (arith, more, empty_count T k (omega arith), ap length (cond-false (eqb r 0) (r ∷ []) [] f)))
 
 -- at most k places below k are empty
 pub empty_most : (T : List ℕ) (k : ℕ) → empty_below T k ≤ k

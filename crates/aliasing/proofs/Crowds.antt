@@ -1,6 +1,6 @@
 -- Clear pairs: no other word of one letter or two has the same least alias.
-use Rattle.std.proofs.Common.{◌≡◌, ℕ, ◌+◌, ◌-◌, ◌<◌, ◌≤◌, Bool, true, false, cond, not, ◌&&◌, ◌||◌, eqb, ◌⊎◌, List, [], ◌∷◌, length, get_or, take, Decides, sym, refl, ap, ◌∙◌, subst, inl, inr, arith, length-append}
-use Rattle.std.proofs.lemmas.List.{get_or-take, get_or-append_right}
+use Rattle.std.proofs.Common.{◌≡◌, ℕ, ◌+◌, ◌-◌, ◌<◌, ◌≤◌, Bool, true, false, cond, not, ◌&&◌, ◌||◌, eqb, ◌⊎◌, ◌↔◌, List, [], ◌∷◌, map, length, get_or, Decides, sym, refl, ap, ◌∙◌, subst, inl, inr, arith, length-append}
+use Rattle.std.proofs.lemmas.List.{get_or-map, length-map, get_or-append_right}
 use Rattle.std.proofs.lemmas.Bool.{cases_eq, cases_Bool, or_cases, or_left, or_right, and_parts, and_from, eqb-true, eqb-false, eq-eqb, ne_eqb, not-true, not_from_false, both_ways, cond-true, cond-false}
 use Rattle.levels.specs.Arithmetic.{two}
 use Rattle.levels.specs.Words.{word_length}
@@ -14,6 +14,7 @@ use Rattle.levels.proofs.Multiplicity.{in_alias_set, in_alias_set_from}
 use Rattle.levels.proofs.Places.{In, in_left, in_right, in_append}
 use Rattle.levels.proofs.Ascending.{in_here, in_later, in_cons, in_none}
 use Rattle.aliasing.specs.Clear.{pairs, crowded, clear_byte}
+use Rattle.aliasing.specs.declared.clear.Short.{Short}
 use Rattle.aliasing.specs.Short.{letters_from, short_words, LeastAliases, Alone}
 use Rattle.aliasing.proofs.Ladders.{alias-is-word}
 use Rattle.aliasing.proofs.Shorts.{letter_word, word_letter, pair_word, word_pair, letters_length}
@@ -74,68 +75,70 @@ module _ (n : ℕ) (high : n ≤ 32) where
     | inr b ↦ (in_right (letters_from 0 n) (pairs n) z (word_pair n z hz b.0), b.1)
   ]
 
-  module _ (ws rows : List ℕ) (e : Echelon two n rows) (same : SameWords two n rows ws) (ss rs : List ℕ) (len : ℕ)
-      (count : len ≡ length (short_words n)) (front : take len ss ≡ short_words n) (least : LeastAliases n rows ss rs len) where
+  module _ (ws rows : List ℕ) (e : Echelon two n rows) (same : SameWords two n rows ws) (ss : List Short)
+      (words : map (λ s. s.word) ss ≡ short_words n) (least : LeastAliases n rows ss) where
+    -- there are as many
+    many : length ss ≡ length (short_words n)
+    many = sym (length-map ss (λ s. s.word)) ∙ ap length words
+
     -- the short word at a place
-    short-at : (i : ℕ) → i < len → get_or ss i 0 ≡ get_or (short_words n) i 0
-    short-at i l = sym (get_or-take len ss i 0 l) ∙ ap (λ xs. get_or xs i 0) front
+    short-at : (i : ℕ) (d : Short) → i < length ss → (get_or ss i d).word ≡ get_or (short_words n) i 0
+    short-at i d l = sym (get_or-map (λ s. s.word) ss i d 0 l) ∙ ap (λ xs. get_or xs i 0) words
 
     -- it is one
-    short-in : (i : ℕ) → i < len → In (get_or ss i 0) (short_words n)
-    short-in i l = (i, omega (arith, count), sym (short-at i l))
+    short-in : (i : ℕ) (d : Short) → i < length ss → In (get_or ss i d).word (short_words n)
+    short-in i d l = (i, omega (arith, many), sym (short-at i d l))
 
     -- its least alias
-    least_at : (i : ℕ) → i < len → LeastAlias two n rows (get_or ss i 0) (get_or rs i 0)
-    least_at i l = least i l e (short_word (get_or ss i 0) (short-in i l))
+    least_at : (i : ℕ) (d : Short) → i < length ss → LeastAlias two n rows (get_or ss i d).word (get_or ss i d).least
+    least_at i d l = least i d l e (short_word (get_or ss i d).word (short-in i d l))
 
-    module _ (t : ℕ) (lt : t < len) (h : In (get_or ss t 0) (pairs n)) where
+    module _ (p : Short) (h : In p.word (pairs n)) (lp : LeastAlias two n rows p.word p.least) where
       -- a pair alone with its least alias is clear
-      alone-clear : Alone ss rs len t → crowded (get_or ss t 0) (alias_set two n ws (get_or ss t 0)) ≡ true → ⊥
+      alone-clear : Alone ss p → crowded p.word (alias_set two n ws p.word) ≡ true → ⊥
       alone-clear alone crowd =
-          let p = get_or ss t 0 in
-          let hp = (pair_word n p high h).0 in
-          let c = crowded_from p (alias_set two n ws p) crowd in
+          let hp = (pair_word n p.word high h).0 in
+          let c = crowded_from p.word (alias_set two n ws p.word) crowd in
           let z = c.0 in
-          let a = in_alias_set_from two lawful_two n ws p z c.1 in
-          let hz = alias-is-word two lawful_two n p hp ws z c.1 in
-          let s = crowds_short p z h hz c.2 in
+          let a = in_alias_set_from two lawful_two n ws p.word z c.1 in
+          let hz = alias-is-word two lawful_two n p.word hp ws z c.1 in
+          let s = crowds_short p.word z h hz c.2 in
           let i = s.0.0 in
-          let li : i < len = omega (arith, s.0.1, count) in
-          let at : get_or ss i 0 ≡ z = short-at i li ∙ s.0.2 in
-          let r = (least_same two lawful_two n rows p (get_or ss i 0) (get_or rs t 0) (get_or rs i 0) hp (short_word (get_or ss i 0) (short-in i li)) (least_at t lt) (least_at i li)
+          let li : i < length ss = omega (arith, s.0.1, many) in
+          let o = get_or ss i p in
+          let at : o.word ≡ z = short-at i p li ∙ s.0.2 in
+          let r = (least_same two lawful_two n rows p.word o.word p.least o.least hp (short_word o.word (short-in i p li)) lp (least_at i p li)
           ).1 (a.0, (same a.0).1 a.1, at ∙ a.2) in
-          s.1 (sym at ∙ alone i li (sym r))
+          s.1 (sym at ∙ alone i p li (sym r))
 
       -- and a clear pair is alone
-      clear-alone : crowded (get_or ss t 0) (alias_set two n ws (get_or ss t 0)) ≡ false → Alone ss rs len t
-      clear-alone clear i li r =
-          let p = get_or ss t 0 in
-          let z = get_or ss i 0 in
-          let hp = (pair_word n p high h).0 in
-          let d = (least_same two lawful_two n rows p z (get_or rs t 0) (get_or rs i 0) hp (short_word z (short-in i li)) (least_at t lt) (least_at i li)).0 (sym r) in
-          let member : In z (alias_set two n ws p) = subst (λ w. In w (alias_set two n ws p)) (sym d.2) (in_alias_set two lawful_two n ws p d.0 ((same d.0).0 d.1)) in
-          elim (cases_eq z p) [
+      clear-alone : crowded p.word (alias_set two n ws p.word) ≡ false → Alone ss p
+      clear-alone clear i d li r =
+          let z = (get_or ss i d).word in
+          let hp = (pair_word n p.word high h).0 in
+          let q = (least_same two lawful_two n rows p.word z p.least (get_or ss i d).least hp (short_word z (short-in i d li)) lp (least_at i d li)).0 (sym r) in
+          let member : In z (alias_set two n ws p.word) = subst (λ w. In w (alias_set two n ws p.word)) (sym q.2) (in_alias_set two lawful_two n ws p.word q.0 ((same q.0).0 q.1)) in
+          elim (cases_eq z p.word) [
             | inl s ↦ s
-            | inr ne ↦ absurd (both_ways (crowded p (alias_set two n ws p)) clear (crowded_to p (alias_set two n ws p) z member (short_crowds p z (short-in i li) ne)))
+            | inr ne ↦ absurd (both_ways (crowded p.word (alias_set two n ws p.word)) clear (crowded_to p.word (alias_set two n ws p.word) z member (short_crowds p.word z (short-in i d li) ne)))
           ]
 
       -- so the test gives the byte
-      alone-byte : (b : Bool) → Decides b (Alone ss rs len t) → cond b 1 0 ≡ clear_byte n ws (get_or ss t 0)
-      alone-byte b d =
-          let p = get_or ss t 0 in
-          elim (cases_Bool (crowded p (alias_set two n ws p))) [
-            | inl c ↦ elim (cases_Bool b) [
-              | inl y ↦ absurd (alone-clear (d.0 y) c)
-              | inr f ↦ cond-false {A = ℕ} b 1 0 f ∙ sym (cond-true {A = ℕ} (crowded p (alias_set two n ws p)) 0 1 c)
-            ]
-            | inr c ↦ cond-true {A = ℕ} b 1 0 (d.1 (clear-alone c)) ∙ sym (cond-false {A = ℕ} (crowded p (alias_set two n ws p)) 0 1 c)
-          ]
+      alone-byte : (b : Bool) → (b ≡ true) ↔ Alone ss p → cond b 1 0 ≡ clear_byte n ws p.word
+      alone-byte b d = elim (cases_Bool (crowded p.word (alias_set two n ws p.word))) [
+        | inl c ↦ elim (cases_Bool b) [
+          | inl y ↦ absurd (alone-clear (d.0 y) c)
+          | inr f ↦ cond-false {A = ℕ} b 1 0 f ∙ sym (cond-true {A = ℕ} (crowded p.word (alias_set two n ws p.word)) 0 1 c)
+        ]
+        | inr c ↦ cond-true {A = ℕ} b 1 0 (d.1 (clear-alone c)) ∙ sym (cond-false {A = ℕ} (crowded p.word (alias_set two n ws p.word)) 0 1 c)
+      ]
 
     -- the pair at a place behind the letters
-    pub pair-byte : (j : ℕ) → j < length (pairs n) → (b : Bool) → Decides b (Alone ss rs len (n + j)) → cond b 1 0 ≡ clear_byte n ws (get_or (pairs n) j 0)
-    pair-byte j l b d =
-        let lt : n + j < len = omega (arith, count, length-append (letters_from 0 n) (pairs n), letters_length 0 n) in
-        let at : get_or ss (n + j) 0 ≡ get_or (pairs n) j 0 =
-        short-at (n + j) lt ∙ get_or-append_right (letters_from 0 n) (pairs n) n (n + j) 0 (letters_length 0 n) (omega arith)
+    pub pair-byte : (j : ℕ) (d : Short) → j < length (pairs n) → (p : Short) → p ≡ get_or ss (n + j) d → (b : Bool) → (b ≡ true) ↔ Alone ss p → cond b 1 0 ≡ clear_byte n ws (get_or (pairs n) j 0)
+    pair-byte j d l p is b t =
+        let lt : n + j < length ss = omega (arith, many, length-append (letters_from 0 n) (pairs n), letters_length 0 n) in
+        let at : p.word ≡ get_or (pairs n) j 0 =
+        ap (λ s. s.word) is ∙ short-at (n + j) d lt ∙ get_or-append_right (letters_from 0 n) (pairs n) n (n + j) 0 (letters_length 0 n) (omega arith)
         ∙ ap (λ i. get_or (pairs n) i 0) (let s : n + j - n ≡ j = omega arith in s) in
-        alone-byte (n + j) lt (j, l, sym at) b d ∙ ap (clear_byte n ws) at
+        let lp : LeastAlias two n rows p.word p.least = subst (λ s. LeastAlias two n rows s.word s.least) (sym is) (least_at (n + j) d lt) in
+        alone-byte p (j, l, sym at) lp b t ∙ ap (clear_byte n ws) at

@@ -1,8 +1,10 @@
 -- The rows of an echelon form above a floor, from the smallest on, and the entries of the alias sets over them.
-use Rattle.std.proofs.Common.{◌≡◌, ℕ, zero, suc, ◌+◌, ◌*◌, ◌/◌, ◌%◌, ◌<◌, ◌≤◌, Bool, true, false, cond, ◌&&◌, eqb, ltb, ◌⊎◌, List, [], ◌∷◌, map, length, get_or, Some, None, Option, sym, refl, ap, ◌∙◌, subst, inl, inr, add-zero, mul-le-mul_right, suc-mul, add-one, arith, MatchOption}
+use Rattle.std.proofs.Common.{◌≡◌, ℕ, zero, suc, ◌+◌, ◌*◌, ◌/◌, ◌%◌, ◌<◌, ◌≤◌, ◌++◌, Bool, true, false, cond, ◌&&◌, eqb, ltb, ◌⊎◌, List, [], ◌∷◌, map, filter, All, Contains, length, get_or, Some, None, Option, sym, refl, ap, ◌∙◌, subst, inl, inr, mul-le-mul_right, suc-mul, add-one, arith, MatchOption}
 use Rattle.std.proofs.lemmas.Nat.{mod_below, div-add-mod'}
-use Rattle.std.proofs.lemmas.List.{get_or_past}
-use Rattle.std.proofs.lemmas.Bool.{cases_lt, cases_eq, cases_Bool, cases_order, cond_both, and_parts, and_from, lt-ltb, ltb-true}
+use Rattle.std.proofs.lemmas.List.{get_or_past, get_or_default}
+use Rattle.std.specs.List.{range_with_len}
+use Rattle.std.proofs.lemmas.List.FromFn.{map-range_with_len_more}
+use Rattle.std.proofs.lemmas.Bool.{cases_lt, cases_eq, cases_Bool, cases_order, cond_both, cond-true, cond-false, and_parts, and_from, lt-ltb, ltb-true}
 use Rattle.std.proofs.lemmas.Bool.Decides.{nat_tests}
 use Rattle.levels.specs.Arithmetic.{Arithmetic, Lawful}
 use Rattle.levels.specs.Words.{word_sum, word_multiple}
@@ -14,9 +16,9 @@ use Rattle.levels.proofs.Space.{zero_level}
 use Rattle.levels.proofs.Linear.{add_zero_word}
 use Rattle.levels.proofs.Reduced.{space_at}
 use Rattle.levels.proofs.Generation.{space, generates_trans, generates_place, generates_zero}
-use Rattle.levels.proofs.Ascending.{in_ascending, how_many_append}
+use Rattle.levels.proofs.Ascending.{in_ascending}
 use Rattle.levels.proofs.Sets.{Rising, holds_in, in_holds, holds_at, insert_holds, insert_rising, rising_same, holds_none, ascending_rising, holds_there, holds_here}
-use Rattle.aliasing.specs.Blocks.{sums_below, block, above, Next, Entry}
+use Rattle.aliasing.specs.Blocks.{sums_below, block, above, Entry}
 use Rattle.aliasing.specs.Members.{Member}
 use Rattle.aliasing.proofs.Heights.{power, rows_apart}
 use Rattle.aliasing.proofs.Joins.{joined_length, joined_at, rising_smaller, smaller_place, distinct_count}
@@ -28,56 +30,73 @@ above_rising f [] = tt
 above_rising f (x ∷ xs) =
     cond_both (ltb f x) (insert x (above f xs)) (above f xs) Rising (λ _. insert_rising x (above f xs) (above_rising f xs)) (λ _. above_rising f xs)
 
--- they are the numbers of the list that are above it
-pub above_holds : (f : ℕ) (xs : List ℕ) (w : ℕ) → holds (above f xs) w ≡ (holds xs w && ltb f w)
-above_holds f [] w = refl
-above_holds f (x ∷ xs) w =
-    let h = above_holds f xs w in
-    cond_both (ltb f x) (insert x (above f xs)) (above f xs) (λ l. holds l w ≡ (holds (x ∷ xs) w && ltb f w))
-    (λ t. insert_holds x (above f xs) w ∙ kept t h) (λ t. h ∙ left t)
+-- the numbers of a list that are above a floor
+larger_holds : (f : ℕ) (xs : List ℕ) (w : ℕ) → holds (filter (ltb f) xs) w ≡ (holds xs w && ltb f w)
+larger_holds f [] w = refl
+larger_holds f (x ∷ xs) w =
+    let h = larger_holds f xs w in
+    cond_both (ltb f x) (x ∷ filter (ltb f) xs) (filter (ltb f) xs) (λ l. holds l w ≡ (holds (x ∷ xs) w && ltb f w)) (λ t. kept t h) (λ t. h ∙ left t)
   where
-    kept : ltb f x ≡ true → holds (above f xs) w ≡ (holds xs w && ltb f w) → holds (x ∷ above f xs) w ≡ (holds (x ∷ xs) w && ltb f w)
+    kept : ltb f x ≡ true → holds (filter (ltb f) xs) w ≡ (holds xs w && ltb f w) → holds (x ∷ filter (ltb f) xs) w ≡ (holds (x ∷ xs) w && ltb f w)
     kept t h = grind (arith, nat_tests)
 
     left : ltb f x ≡ false → (holds xs w && ltb f w) ≡ (holds (x ∷ xs) w && ltb f w)
     left t = grind (arith, nat_tests)
+
+-- they are those, in ascending order
+above_larger : (f : ℕ) (xs : List ℕ) (w : ℕ) → holds (above f xs) w ≡ holds (filter (ltb f) xs) w
+above_larger f [] w = refl
+above_larger f (x ∷ xs) w =
+    let h = above_larger f xs w in
+    cond_both (ltb f x) (insert x (above f xs)) (above f xs) (λ l. holds l w ≡ holds (filter (ltb f) (x ∷ xs)) w)
+    (λ t. insert_holds x (above f xs) w ∙ ap (λ b. cond (eqb x w) true b) h ∙ ap (λ l. holds l w) (sym (cond-true (ltb f x) (x ∷ filter (ltb f) xs) (filter (ltb f) xs) t)))
+    (λ t. h ∙ ap (λ l. holds l w) (sym (cond-false (ltb f x) (x ∷ filter (ltb f) xs) (filter (ltb f) xs) t)))
+
+-- the numbers of the list that are above the floor
+pub above_holds : (f : ℕ) (xs : List ℕ) (w : ℕ) → holds (above f xs) w ≡ (holds xs w && ltb f w)
+above_holds f xs w = above_larger f xs w ∙ larger_holds f xs w
 
 -- so a number above the floor is in the list
 pub above_from : (f : ℕ) (xs : List ℕ) (w : ℕ) → holds (above f xs) w ≡ true → (holds xs w ≡ true) × (f < w)
 above_from f xs w h = let p = and_parts (holds xs w) (ltb f w) (sym (above_holds f xs w) ∙ h) in (p.0, ltb-true f w p.1)
 
 -- with no number above the floor there are none
-pub above_end : (xs : List ℕ) (f v : ℕ) → Next xs (length xs) f v → v ≡ f → above f xs ≡ []
-above_end xs f v h e = holds_none (above f xs) (λ w. elim (cases_Bool (holds (above f xs) w)) [
-  | inl t ↦
-      let p = above_from f xs w t in
-      let q = holds_in xs w p.0 in
-      absurd (let m = (h.least q.0 q.1 (subst (λ z. f < z) (sym q.2) p.1)).0 in omega arith)
+pub above_end : (xs : List ℕ) (f : ℕ) → length (filter (ltb f) xs) ≡ 0 → above f xs ≡ []
+above_end xs f none = holds_none (above f xs) (λ w. elim (cases_Bool (holds (above f xs) w)) [
+  | inl t ↦ absurd (let q = holds_in (filter (ltb f) xs) w (sym (above_larger f xs w) ∙ t) in omega (arith, q.1))
   | inr n ↦ n
 ])
 
 -- else they are the smallest and those above it
-pub above_next : (xs : List ℕ) (f v : ℕ) → Next xs (length xs) f v → f < v → above f xs ≡ v ∷ above v xs
-above_next xs f v h l =
+pub above_next : (xs : List ℕ) (f v : ℕ) → Contains (filter (ltb f) xs) v → All (λ x. v ≤ x) (filter (ltb f) xs) → above f xs ≡ v ∷ above v xs
+above_next xs f v found least =
     rising_same (above f xs) (v ∷ above v xs) (above_rising f xs) ((λ w t. (above_from v xs w t).1), above_rising v xs)
     (λ w. above_holds f xs w ∙ same w ∙ ap (λ b. cond (eqb v w) true b) (sym (above_holds v xs w)))
   where
-    here : holds xs v ≡ true
-    here = let q = h.found l in in_holds xs v q
+    here : (holds xs v ≡ true) × (f < v)
+    here =
+        let p = and_parts (holds xs v) (ltb f v) (sym (larger_holds f xs v) ∙ in_holds (filter (ltb f) xs) v (found.0, found.1, get_or_default (filter (ltb f) xs) found.0 0 v found.1 ∙ found.2)) in
+        (p.0, ltb-true f v p.1)
 
     same : (w : ℕ) → (holds xs w && ltb f w) ≡ cond (eqb v w) true (holds xs w && ltb v w)
     same w = elim (cases_eq v w) [
-      | inl e ↦ let t : holds xs w ≡ true = subst (λ z. holds xs z ≡ true) e here in grind (arith, nat_tests)
-      | inr d ↦ elim (cases_Bool (holds xs w)) [
-        | inr n ↦ grind (arith, nat_tests)
+      | inl e ↦ let t : holds xs w ≡ true = subst (λ z. holds xs z ≡ true) e here.0 in let l = here.1 in grind (arith, nat_tests)
+      | inr d ↦ elim (cases_Bool (holds xs w && ltb f w)) [
         | inl t ↦
-            let q = holds_in xs w t in
-            elim (cases_lt f w) [
-              | inl m ↦ let le = (h.least q.0 q.1 (subst (λ z. f < z) (sym q.2) m)).1 in let e = q.2 in grind (arith, nat_tests)
-              | inr m ↦ grind (arith, nat_tests)
-            ]
+            let q = holds_in (filter (ltb f) xs) w (larger_holds f xs w ∙ t) in
+            let le : v ≤ w = subst (λ z. v ≤ z) q.2 (least q.0 0 q.1) in
+            grind (arith, nat_tests)
+        | inr n ↦ let l = here.1 in grind (arith, nat_tests)
       ]
     ]
+
+-- how many numbers of a list pass a test of what a function makes of them
+pub count_mapped : (p : ℕ → Bool) (f : ℕ → ℕ) (xs : List ℕ) → length (filter (λ x. p (f x)) xs) ≡ how_many p (map f xs)
+count_mapped p f [] = refl
+count_mapped p f (x ∷ xs) =
+    let h = count_mapped p f xs in
+    cond_both (p (f x)) (x ∷ filter (λ x. p (f x)) xs) (filter (λ x. p (f x)) xs) (λ ys. length ys ≡ cond (p (f x)) 1 0 + how_many p (map f xs))
+    (λ t. omega (arith, cond-true {A = ℕ} (p (f x)) 1 0 t)) (λ e. omega (arith, cond-false {A = ℕ} (p (f x)) 1 0 e))
 
 module _ (A : Arithmetic) (L : Lawful A) (n : ℕ) where
   -- ascending words other than 0, with a place between any two, are a ladder
@@ -165,12 +184,13 @@ module _ (A : Arithmetic) (L : Lawful A) (n : ℕ) where
           omega (arith, blocks-length, div-add-mod' m A.s)
 
       -- an entry is in the block of an entry
-      pub entry-some : (m y r : ℕ) → m / A.s < length (alias_set A n us x) → y ≡ get_or (alias_set A n us x) (m / A.s) 0 →
-          r ≡ get_or (block A n v y) (m % A.s) 0 → Entry (alias_set A n (v ∷ us) x) m (Some r)
+      pub entry-some : (m y : ℕ) (r : Option ℕ) → m / A.s < length (alias_set A n us x) → y ≡ get_or (alias_set A n us x) (m / A.s) 0 →
+          r ≡ Some (get_or (block A n v y) (m % A.s) 0) → Entry (alias_set A n (v ∷ us) x) m r
       entry-some m y r l e f =
-          let g : suc (m / A.s) * A.s ≤ length (alias_set A n us x) * A.s = mul-le-mul_right A.s l in (
+          let g : suc (m / A.s) * A.s ≤ length (alias_set A n us x) * A.s = mul-le-mul_right A.s l in
+          subst (Entry (alias_set A n (v ∷ us) x) m) (sym f) (
             omega (arith, blocks-length, div-add-mod' m A.s, mod_below m A.s (zero_level A L), suc-mul (m / A.s) A.s),
-            f ∙ ap (λ z. get_or (block A n v z) (m % A.s) 0) e
+            ap (λ z. get_or (block A n v z) (m % A.s) 0) e
                 ∙ sym (joined_at (block A n v) A.s (zero_level A L) (alias_set A n us x) (blocks-even A L n x hx v us h.0 h.1) m l)
                 ∙ ap (λ xs. get_or xs m 0) (sym (ladder-blocks A L n x hx v us h)),
           )
@@ -204,11 +224,12 @@ module _ (A : Arithmetic) (L : Lawful A) (n : ℕ) where
               ∙ rising_smaller B (ascending_rising xs) place lb,
         )
 
-  -- one more sum is counted or not
-  pub count_more : (p : ℕ → Bool) (k v y : ℕ) → how_many p (sums_below A n (k + 1) v y) ≡ how_many p (sums_below A n k v y) + cond (p (word_sum A n y (word_multiple A n k v))) 1 0
-  count_more p k v y =
-      let z = word_sum A n y (word_multiple A n k v) in
-      ap (λ j. how_many p (sums_below A n j v y)) (add-one k) ∙ how_many_append p (sums_below A n k v y) (z ∷ []) ∙ ap (λ j. how_many p (sums_below A n k v y) + j) (add-zero (cond (p z) 1 0))
+  -- the sums level by level
+  pub sums_list : (k v y : ℕ) → map (λ c. word_sum A n y (word_multiple A n c v)) (range_with_len 0 k) ≡ sums_below A n k v y
+  sums_list zero v y = refl
+  sums_list (suc k) v y =
+      let f : ℕ → ℕ = λ c. word_sum A n y (word_multiple A n c v) in
+      ap (λ j. map f (range_with_len 0 j)) (sym (add-one k)) ∙ map-range_with_len_more f 0 k k (omega arith) ∙ ap (λ xs. xs ++ f k ∷ []) (sums_list k v y)
 
   -- an entry of an alias set is its member
   pub alias_member : (ws : List ℕ) (w m : ℕ) (r : Option ℕ) → Entry (alias_set A n ws w) m r → MatchOption r (length (alias_set A n ws w) ≤ m) (λ x. Member (alias_set A n ws w) m x)

@@ -123,8 +123,3 @@ smaller_place xs r x m p e =
 pub byte_cond : (b : Bool) → bool_byte b ≡ cond b 1 0
 byte_cond true = refl
 byte_cond false = refl
-
--- which is at most 1
-pub byte_most : (b : Bool) → ◌≤◌ (cond b 1 0) 1
-byte_most true = omega arith
-byte_most false = omega arith

@@ -1,3 +1,4 @@
+pub mod Called
 pub mod Chosen
 pub mod Counts
 pub mod Crowds

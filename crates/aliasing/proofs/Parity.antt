@@ -1,5 +1,5 @@
 -- The parity of the letters of a word that are at level 1 in a run, by bits.
-use Rattle.std.proofs.Common.{◌≡◌, ℕ, zero, suc, ◌+◌, ◌*◌, ◌/◌, ◌%◌, ◌^◌, ◌<◌, min, cond, not, ◌&&◌, eqb, List, [], ◌∷◌, length, get_or, drop, sym, refl, ap, ◌∙◌, ap₂, mul_assoc, mul_comm, add-mul, pow-suc, add-one, arith, pow_mono}
+use Rattle.std.proofs.Common.{◌≡◌, ℕ, zero, suc, ◌+◌, ◌*◌, ◌/◌, ◌%◌, ◌^◌, ◌<◌, cond, not, ◌&&◌, eqb, List, [], ◌∷◌, length, get_or, drop, sym, refl, ap, ◌∙◌, ap₂, mul_assoc, mul_comm, add-mul, pow-suc, add-one, arith}
 use lib.Bits.{bit_and, bit_xor, and_shr, and_mod, xor_shr, xor_mod, and_zero_l, and_zero_r, and_self}
 use lib.Count.{ones, ones_in, ones_step, ones_cat}
 use Rattle.std.proofs.lemmas.Nat.{pow_pos, shr_split, shr_high, mod_low, mod_below}
@@ -119,14 +119,3 @@ block_next x ws i number number' all l e h =
     let step : block_bits x (drop i ws) ≡ odd x (get_or ws i 0) + 2 * block_bits x (drop (i + 1) ws) = at_drop_more (block_bits x) ws i 0 l in
     ap (λ k. k + block_bits x (drop (i + 1) ws) * 2 ^ (i + 1)) e
     ∙ block_more number (odd x (get_or ws i 0)) (block_bits x (drop (i + 1) ws)) i all (ap (λ k. number + k * 2 ^ i) (sym step) ∙ h)
-
--- a number of at most 16 digits with one more
-pub digit_fits : (number i : ℕ) → i < 16 → number < 2 ^ min i 16 → number + 2 ^ i < 2 ^ min (i + 1) 16
-digit_fits number i l h =
-    let here : min i 16 ≡ i = omega arith in
-    let next : min (i + 1) 16 ≡ suc i = omega arith in
-    omega (arith, h, ap (λ k. 2 ^ k) here, ap (λ k. 2 ^ k) next, pow-suc 2 i)
-
--- and without
-pub digit_kept : (number i : ℕ) → number < 2 ^ min i 16 → number < 2 ^ min (i + 1) 16
-digit_kept number i h = omega (arith, h, pow_mono {i = min i 16} {j = min (i + 1) 16} (omega arith))

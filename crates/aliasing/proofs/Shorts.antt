@@ -1,19 +1,22 @@
 -- Words of one letter and of two: they are the two-level words of these lengths; and how many there are.
-use Rattle.std.proofs.Common.{◌≡◌, ℕ, zero, suc, ◌+◌, ◌-◌, ◌*◌, ◌/◌, ◌%◌, ◌^◌, ◌<◌, ◌≤◌, cond, eqb, List, [], ◌∷◌, ◌++◌, map, length, get_or, take, set, replicate, sym, refl, ap, ◌∙◌, subst, inl, inr, mul_assoc, mul_comm, one-mul, pow-suc, mul-zero, mul-one, mul-add, add-one, arith, length-append}
+use Rattle.std.proofs.Common.{◌≡◌, ℕ, zero, suc, ◌+◌, ◌-◌, ◌*◌, ◌/◌, ◌%◌, ◌^◌, ◌<◌, ◌≤◌, cond, eqb, List, [], ◌∷◌, ◌++◌, map, length, get_or, take, replicate, sym, refl, ap, ◌∙◌, subst, inl, inr, mul_assoc, mul_comm, one-mul, pow-suc, mul-zero, mul-one, mul-add, add-one, arith, length-append}
 use Rattle.std.proofs.lemmas.Nat.{pow_pos, mod_below}
-use Rattle.std.proofs.lemmas.List.{length-map, take_more, take_more_set, append_assoc, length-take-le}
+use Rattle.std.proofs.lemmas.List.{length-map, map-append, map_more, take_all, append_assoc, length-take-le}
+use Rattle.std.proofs.lemmas.List.Elements.{All-push}
 use Rattle.std.proofs.lemmas.Bool.{cases_eq}
 use Rattle.std.proofs.lemmas.Bool.Decides.{nat_tests}
 use Rattle.levels.specs.Arithmetic.{two}
 use Rattle.levels.specs.Words.{digits, code, nonzero, word_length}
 use Rattle.levels.specs.Space.{Word}
+use Rattle.levels.specs.Basis.{Echelon, LeastAlias}
 use Rattle.levels.proofs.Digits.{digits_fit, digits_length, code_digits, word_legal, legal_word}
 use Rattle.levels.proofs.Space.{zero_digits}
 use Rattle.levels.proofs.Lengths.{nonzero_none, nonzero_zeros, length_digits}
 use Rattle.levels.proofs.Places.{In, in_left, in_right, in_append, in_map, in_map_from}
 use Rattle.levels.proofs.Ascending.{in_here, in_later, in_cons, in_none}
-use Rattle.aliasing.specs.Clear.{letter, pair, pairs_with, pairs_from, pairs, ones_in}
-use Rattle.aliasing.specs.Short.{letters_from, short_words}
+use Rattle.aliasing.specs.Clear.{letter, pair, pairs_with, pairs_from, pairs}
+use Rattle.aliasing.specs.declared.clear.Short.{Short}
+use Rattle.aliasing.specs.Short.{letters_from, short_words, LeastAliases}
 
 -- z has m letters, of k factors from i on
 pub record Letters (m i k z : ℕ) : Type 0 where
@@ -223,14 +226,28 @@ pairs_most n l = rw (pairs_length 0 n) (pair_count_up n 32 l)
 pub short_most : (n : ℕ) → n ≤ 32 → length (short_words n) ≤ 528
 short_most n l = omega (arith, length-append (letters_from 0 n) (pairs n), letters_length 0 n, pairs_most n l)
 
--- one word more is listed
-pub list_more : (ss : List ℕ) (len x : ℕ) (rest all : List ℕ) → len < length ss → take len ss ++ (x ∷ rest) ≡ all → take (len + 1) (set ss len x) ++ rest ≡ all
-list_more ss len x rest all l e = ap (λ xs. xs ++ rest) (take_more_set ss len x l) ∙ append_assoc (take len ss) (x ∷ []) rest ∙ e
+-- a list has the words that come before the rest, each with its least alias
+pub record Lists (n : ℕ) (rows : List ℕ) (ss : List Short) (rest : List ℕ) : Type 0 where
+  pub words : map (λ s. s.word) ss ++ rest ≡ short_words n
+  pub least : LeastAliases n rows ss
 
--- and there is room for it
-pub list_room : (n : ℕ) → n ≤ 32 → (ss : List ℕ) (len x : ℕ) (rest : List ℕ) → length ss ≡ 528 → len ≤ 528 → take len ss ++ (x ∷ rest) ≡ short_words n → len < 528
-list_room n high ss len x rest whole le e =
-    omega (arith, ap length e, length-append (take len ss) (x ∷ rest), length-take-le len ss (omega arith), short_most n high)
+-- one word more is listed: there is room for it
+pub list_more : (n : ℕ) → n ≤ 32 → (rows : List ℕ) (old new : List Short) (s : Short) (w x : ℕ) (rest : List ℕ) → s.word ≡ w → w ≡ x →
+    (Echelon two n rows → Word two n w → LeastAlias two n rows w s.least) → new ≡ take 528 (old ++ s ∷ []) → Lists n rows old (x ∷ rest) → Lists n rows new rest
+list_more n high rows old new s w x rest word value least pushed h =
+    let all = ap length h.words in
+    let room : length (old ++ s ∷ []) ≤ 528 =
+    omega (arith, all, length-append (map (λ s. s.word) old) (x ∷ rest), length-map old (λ s. s.word), length-append old (s ∷ []), short_most n high) in
+    let whole : new ≡ old ++ s ∷ [] = pushed ∙ take_all 528 (old ++ s ∷ []) room in
+    record {
+      words = ap (λ xs. map (λ s. s.word) xs ++ rest) whole
+          ∙ ap (λ xs. xs ++ rest) (map-append (λ s. s.word) old (s ∷ []))
+          ∙ append_assoc (map (λ s. s.word) old) (s.word ∷ []) rest
+          ∙ ap (λ y. map (λ s. s.word) old ++ (y ∷ rest)) (word ∙ value) ∙ h.words;
+      least = subst (LeastAliases n rows) (sym whole)
+          (All-push (λ s. Echelon two n rows → Word two n s.word → LeastAlias two n rows s.word s.least) old s h.least
+          (subst (λ v. Echelon two n rows → Word two n v → LeastAlias two n rows v s.least) (sym word) least));
+    }
 
 -- the first of the letters that are left
 pub letters_next : (i n : ℕ) → i < n → letters_from i (n - i) ≡ letter i ∷ letters_from (i + 1) (n - (i + 1))
@@ -245,14 +262,13 @@ pub pairs_from_next : (i n : ℕ) → i < n → pairs_from i (n - i) ≡ pairs_w
 pairs_from_next i n l =
     ap (pairs_from i) (let e : n - i ≡ suc (n - (i + 1)) = omega arith in e) ∙ ap (λ j. pairs_with i j (n - (i + 1)) ++ pairs_from j (n - (i + 1))) (sym (add-one i))
 
--- the number of ones of one byte more
-pub ones_more : (bs : List ℕ) (i : ℕ) → i < length bs → ones_in (take (i + 1) bs) ≡ ones_in (take i bs) + get_or bs i 0
-ones_more bs i l = ap ones_in (take_more bs i 0 l) ∙ ones-push (take i bs) (get_or bs i 0)
-  where
-    ones-push : (xs : List ℕ) (b : ℕ) → ones_in (xs ++ b ∷ []) ≡ ones_in xs + b
-    ones-push [] b = omega arith
-    ones-push (x ∷ xs) b = omega (arith, ones-push xs b)
-
 -- behind the letters stand the pairs
-pub short_length : (n : ℕ) → length (short_words n) ≡ n + length (pairs n)
-short_length n = omega (arith, length-append (letters_from 0 n) (pairs n), letters_length 0 n)
+pub short_length : (n : ℕ) (ss : List Short) → map (λ s. s.word) ss ≡ short_words n → length ss ≡ n + length (pairs n)
+short_length n ss words = omega (arith, ap length words, length-map ss (λ s. s.word), length-append (letters_from 0 n) (pairs n), letters_length 0 n)
+
+-- one byte more: there is room for it
+pub bytes_more : (f : ℕ → ℕ) (ps : List ℕ) → length ps ≤ 496 → (i byte : ℕ) (old new : List ℕ) → i < length ps → byte ≡ f (get_or ps i 0) → new ≡ take 496 (old ++ byte ∷ []) →
+    old ≡ map f (take i ps) → new ≡ map f (take (i + 1) ps)
+bytes_more f ps few i byte old new l value pushed before =
+    let more : old ++ byte ∷ [] ≡ map f (take (i + 1) ps) = ap (λ xs. xs ++ byte ∷ []) before ∙ ap (λ x. map f (take i ps) ++ x ∷ []) value ∙ sym (map_more f ps i 0 l) in
+    pushed ∙ ap (take 496) more ∙ take_all 496 (map f (take (i + 1) ps)) (omega (arith, length-map (take (i + 1) ps) f, length-take-le (i + 1) ps (omega arith)))

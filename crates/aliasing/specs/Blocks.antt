@@ -1,5 +1,5 @@
 -- Alias sets row by row: the sums of a word and the multiples of one row, and the rows above a floor.
-use Rattle.std.specs.Prelude.{◌≡◌, ℕ, ◌<◌, ◌≤◌, cond, List, [], ◌∷◌, length, Option, MatchOption, nat_lt, slice_index}
+use Rattle.std.specs.Prelude.{◌≡◌, ℕ, ◌<◌, ◌≤◌, cond, List, [], ◌∷◌, filter, length, All, Contains, Option, MatchOption, nat_lt, slice_index}
 use Rattle.levels.specs.Arithmetic.{Arithmetic}
 use Rattle.levels.specs.Words.{word_sum, word_multiple}
 use Rattle.levels.specs.Generated.{each_below, insert, ascending}
@@ -17,11 +17,9 @@ abbrev pub above : ℕ → List ℕ → List ℕ
 above f [] = []
 above f (x ∷ xs) = cond (nat_lt f x) (insert x (above f xs)) (above f xs)
 
--- v is the smallest of the first k numbers of a list above a floor, or the floor itself where there is none
-pub record Next (xs : List ℕ) (k f v : ℕ) : Type 0 where
-  pub low : f ≤ v
-  pub found : f < v → (i : ℕ) × (i < k) × (slice_index xs i ≡ v)
-  pub least : (i : ℕ) → i < k → f < slice_index xs i → (f < v) × (v ≤ slice_index xs i)
+-- r is the smallest of the numbers of a list above a floor, and nothing where there are none
+abbrev pub Next : List ℕ → ℕ → Option ℕ → Type 0
+Next xs f r = let larger = filter (nat_lt f) xs in MatchOption r (length larger ≡ 0) (λ v. Contains larger v × All (λ x. v ≤ x) larger)
 
 -- r is the entry of a list at place m, and nothing past its end
 abbrev pub Entry : List ℕ → ℕ → Option ℕ → Type 0

@@ -1,5 +1,5 @@
 -- Clear pairs of factors of a two-level trial.
-use Rattle.std.specs.Prelude.{ℕ, zero, suc, ◌+◌, ◌^◌, Bool, false, cond, not, ◌&&◌, ◌||◌, List, [], ◌∷◌, ◌++◌, map, ◌==◌}
+use Rattle.std.specs.Prelude.{ℕ, zero, suc, ◌+◌, ◌^◌, Bool, false, cond, not, ◌&&◌, ◌||◌, List, [], ◌∷◌, ◌++◌, map, sum, ◌==◌}
 use Rattle.levels.specs.Arithmetic.{two}
 use Rattle.levels.specs.Words.{word_length}
 use Rattle.levels.specs.Alias.{alias_set}
@@ -40,5 +40,4 @@ clear_bytes n ws = map (clear_byte n ws) (pairs n)
 
 -- the sum of bytes: how many ones there are
 abbrev pub ones_in : List ℕ → ℕ
-ones_in [] = 0
-ones_in (b ∷ bs) = b + ones_in bs
+ones_in bytes = sum bytes

@@ -4,8 +4,8 @@ ghost use Rattle.levels.specs.Generated.{generated};
 ghost use Rattle.aliasing.specs.Pattern.{count, pattern as Pattern, resolution as Resolution, Divides, ResolutionLaw};
 
 use levels::arithmetic::Levels;
-use levels::number::Number;
 use levels::span::tally;
+use std::array;
 
 // How many lengths there are: a word has at most 32 factors.
 pub const LENGTHS: usize = 32;
@@ -16,24 +16,20 @@ pub fn pattern<L: Levels>(n: u8, words: &[u64]) -> [u32; LENGTHS]
     ensures front { length words.now ≤ 16 → n ≤ 32 → take n result ≡ Pattern L.Levels.model n (generated L.Levels.model n words.now) }
     ensures exact { Divides L.Levels.model (generated L.Levels.model n words.now) }
 {
-    let mut counts = [0; LENGTHS];
     let all = tally::<L>(n, words, 0);
     let repeats = all[0];
     if repeats == 0 {
-        return counts;
+        return [0; LENGTHS];
     }
-    let multiples = u64::from(L::LEVELS.get()) - 1;
-    for i in 0..LENGTHS {
-        counts[i] = fitting(all[i + 1] / repeats / multiples);
-    }
-    counts
+    let multiples = u64::from(L::LEVELS) - 1;
+    array::from_fn(|i| fitting(all[i + 1] / repeats / multiples))
 }
 
 // A number in 32 bits: the largest of them where it takes more, as it never does of 16 words.
 fn fitting(amount: u64) -> u32
     ensures { amount < 2 ^ 32 → result ≡ amount }
 {
-    amount.min(u64::from(u32::MAX)) as u32
+    u32::try_from(amount).unwrap_or(u32::MAX)
 }
 
 // The least length with a positive count, and that count.
@@ -43,9 +39,10 @@ pub fn resolution<L: Levels>(n: u8, words: &[u64]) -> Option<(u32, u32)>
     ensures absent { length words.now ≤ 16 → (result ≡ None → generated L.Levels.model n words.now ≡ 0 ∷ []) × (generated L.Levels.model n words.now ≡ 0 ∷ [] → result ≡ None) }
 {
     let counts = pattern::<L>(n, words);
-    for place in 0..LENGTHS {
-        if counts[place] > 0 {
-            return Some((place as u32 + 1, counts[place]));
+    // A loop: no proof was found with `(1..).zip(counts)` and `find`.
+    for (place, count) in counts.iter().enumerate() {
+        if *count > 0 {
+            return Some((place as u32 + 1, *count));
         }
     }
     None

@@ -9,9 +9,6 @@ ghost use Rattle.aliasing.specs.Table.{empty_below, empty_table, filled, odd, pl
 
 use levels::{Levels, TwoLevels};
 
-// Words of n factors, each at the place of its lowest letter; code 0 where there is none.
-type Table = [u64; 32];
-
 // A block number has one binary digit for each of so many words.
 const BLOCK_WORDS: usize = 16;
 
@@ -21,15 +18,10 @@ pub fn run(n: u8, words: &[u64], m: u64) -> Option<u64>
     ensures total { 1 ≤ n → n ≤ 32 → Independent two n words.now → AllWords two n words.now → runs_below n (generated two n words.now) (2 ^ n) ≡ 2 ^ (n - length words.now) }
     ensures same { AllWords two n words.now → (x : ℕ) → is_run n (generated two n words.now) x ≡ is_run n words.now x }
 {
-    if n < 1 || n > 32 {
+    if !(1..=32).contains(&n) {
         return None;
     }
-    let table = table(n, words);
-    let free = free_factors(n, &table);
-    if m >= 1 << free {
-        return None;
-    }
-    Some(chosen(n, &table, free, m))
+    Table::new(n, words).run(m)
 }
 
 // Whether an odd number of a word's letters are at level 1 in a run.
@@ -45,83 +37,96 @@ pub fn block_number(run: u64, words: &[u64]) -> u32
     ensures { (n : ℕ) → legal two n run ≡ true → AllWords two n words.now → length words.now ≤ 16 → result ≡ block_number n run words.now }
 {
     let mut number = 0;
-    for (i, word) in words.iter().enumerate() {
-        if i < BLOCK_WORDS && parity(run, *word) {
+    for (i, word) in words.iter().take(BLOCK_WORDS).enumerate() {
+        if parity(run, *word) {
             number += 1 << i;
         }
     }
     number
 }
 
-// The table of a list of words. Illegal words are skipped.
-fn table(n: u8, words: &[u64]) -> Table
-    requires { n ≤ 32 }
-    ensures { result ≡ filled n empty_table words.now }
-{
-    let mut table = [0; 32];
-    for word in words {
-        if TwoLevels::legal(n, *word) {
-            place(n, &mut table, *word);
-        }
-    }
-    table
+// Words of so many factors, each at the place of its lowest letter; code 0 where there is none.
+// Codes: no such word is 0, and the definitions `placed` and `empty_below` speak of them.
+#[derive(Clone, Copy)]
+struct Table {
+    factors: u8,
+    rows: [u64; 32],
+    ghost few: { factors ≤ 32 },
 }
 
-// Puts a word at the place of its lowest letter; where a row stands there, the row is added and what is left goes on.
-fn place(n: u8, table: &mut Table, word: u64)
-    requires { n ≤ 32 }
-    ensures { table.new ≡ placed n 0 table.old word }
-{
-    let mut left = word;
-    for p in 0..n {
-        let letter = left >> p & 1;
-        if letter == 1 {
-            let row = table[p as usize];
-            if row == 0 {
-                table[p as usize] = left;
-                return;
-            }
-            left ^= row;
-        }
-    }
-}
-
-// How many of n factors have no row: their levels can be chosen.
-fn free_factors(n: u8, table: &Table) -> u8
-    requires { n ≤ 32 }
-    ensures count { result ≡ empty_below table.now n }
-    ensures few { result ≤ 32 }
-{
-    let mut free = 0;
-    for p in 0..n {
-        if table[p as usize] == 0 {
-            free += 1;
-        }
-    }
-    free
-}
-
-// Run m, from the highest factor down: a free factor has the next binary digit of m as its level,
-// and a row makes its lowest letter's level the parity of its other letters.
-fn chosen(n: u8, table: &Table, free: u8, m: u64) -> u64
-    requires range { n ≤ 32 }
-    requires free { free ≡ empty_below table.now n }
-    requires within { m < 2 ^ free }
-    ensures { (ws : List ℕ) → 1 ≤ n → Rows n ws table.now → Run n (generated two n ws) m result }
-{
-    let mut digits = free;
-    let mut code = 0;
-    for p in (0..n).rev() {
-        let row = table[p as usize];
-        let one = if row == 0 {
-            digits -= 1;
-            m >> digits & 1 == 1
-        } else {
-            parity(code, row)
+impl Table {
+    // The table of a list of words. Illegal words are skipped.
+    fn new(n: u8, words: &[u64]) -> Table
+        requires { n ≤ 32 }
+        ensures factors { result.factors ≡ n }
+        ensures rows { result.rows ≡ filled n empty_table words.now }
+    {
+        let mut table = Table {
+            factors: n,
+            rows: [0; 32],
         };
-        if one {
-            code += 1 << p;
+        for word in words {
+            if TwoLevels::legal(n, *word) {
+                table.place(*word);
+            }
+        }
+        table
+    }
+
+    // Puts a word at the place of its lowest letter; where a row stands there, the row is added and what is left goes on.
+    fn place(&mut self, word: u64)
+        ensures factors { self.new.factors ≡ self.old.factors }
+        ensures rows { self.new.rows ≡ placed self.old.factors 0 self.old.rows word }
+    {
+        let mut left = word;
+        // By places: no proof was found for a row that is lent from a struct with a ghost field.
+        for p in 0..self.factors {
+            let letter = left >> p & 1;
+            if letter == 1 {
+                let row = self.rows[usize::from(p)];
+                if row == 0 {
+                    self.rows[usize::from(p)] = left;
+                    return;
+                }
+                left ^= row;
+            }
         }
     }
-    code
+
+    // How many factors have no row: their levels can be chosen.
+    fn free_factors(&self) -> u8
+        ensures count { result ≡ empty_below self.now.rows self.now.factors }
+        ensures few { result ≤ 32 }
+    {
+        self.rows[..usize::from(self.factors)]
+            .iter()
+            .filter(|row| **row == 0)
+            .count() as u8
+    }
+
+    // Run m, from 0 and in ascending code; absent past the last. From the highest factor down, a free factor has the next
+    // binary digit of m as its level, and a row makes its lowest letter's level the parity of its other letters.
+    fn run(&self, m: u64) -> Option<u64>
+        ensures { (ws : List ℕ) → 1 ≤ self.now.factors → Rows self.now.factors ws self.now.rows → MatchOption result (runs_below self.now.factors (generated two self.now.factors ws) (2 ^ self.now.factors) ≤ m) (λ x. Run self.now.factors (generated two self.now.factors ws) m x) }
+    {
+        let mut digits = self.free_factors();
+        if m >= 1 << digits {
+            return None;
+        }
+        let mut code = 0;
+        // By places: each is also the bit of its letter.
+        for p in (0..self.factors).rev() {
+            let row = self.rows[usize::from(p)];
+            let one = if row == 0 {
+                digits -= 1;
+                m >> digits & 1 == 1
+            } else {
+                parity(code, row)
+            };
+            if one {
+                code += 1 << p;
+            }
+        }
+        Some(code)
+    }
 }

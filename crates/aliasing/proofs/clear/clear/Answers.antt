@@ -1,82 +1,57 @@
-use Rattle.std.proofs.Common.{◌≡◌, ◌+◌, ◌-◌, ◌<◌, ◌≤◌, [], ◌∷◌, ◌++◌, map, length, get_or, take, set, Decides, sym, ap, ◌∙◌, subst, arith}
-use Rattle.std.proofs.lemmas.List.{take_all, take_more_set, map_more, length-set}
-use Rattle.levels.specs.Rows.{basis_rows}
+use Rattle.std.proofs.Common.{◌≡◌, ◌+◌, ◌-◌, ◌<◌, ◌≤◌, map, length, get_or, take, drop, sym, ap, ◌∙◌, subst, arith, length-take, length-drop}
+use Rattle.std.proofs.lemmas.List.{get_or-take, get_or-drop, take_all}
+use Rattle.bounded.specs.Items.{items_of}
 use Rattle.levels.specs.Arithmetic.{two}
+use Rattle.levels.specs.Rows.{basis_rows}
 use Rattle.levels.specs.Lawful.{lawful_two}
 use Rattle.levels.proofs.Growth.{from_none}
+use Rattle.aliasing.specs.declared.clear.Short.{Short}
 use Rattle.aliasing.specs.Clear.{pairs, clear_byte}
-use Rattle.aliasing.specs.Short.{Alone}
+use Rattle.aliasing.specs.Short.{short_words, LeastAliases}
 use Rattle.aliasing.proofs.Joins.{byte_cond}
-use Rattle.aliasing.proofs.Shorts.{short_most, pairs_most, short_length}
+use Rattle.aliasing.proofs.Shorts.{pairs_most, short_length, bytes_more}
 use Rattle.aliasing.proofs.Crowds.{pair-byte}
 use Rattle.aliasing.proofs.clear.clear.Goals as goal
 
--- there are at most 528 short words
-pub reduce_all-requires : goal.reduce_all-requires
-reduce_all-requires c = omega (arith, c.list_short-len.ensures.count, short_most c.args.n c.if-n-gt32.false)
+-- the letters are among the short words
+pub slice_bounds-pair-items-count : goal.slice_bounds-pair-items-count
+slice_bounds-pair-items-count c =
+    omega (arith, ap length c.as_slice-short.ensures, short_length c.args.n (items_of c.list_short-list.result) c.list_short-list.ensures.words)
 
--- the place is one of them
-pub alone-requires : goal.alone-requires
-alone-requires c =
-    (c.loop-place-test.true, omega (arith, c.list_short-len.ensures.count, short_most c.args.n c.if-n-gt32.false))
-
--- there are at most 496 pairs
-pub bounds-bytes-place : goal.bounds-bytes-place
-bounds-bytes-place c =
-    omega (arith, c.loop-place-test.true, c.list_short-len.ensures.count, short_length c.args.n, pairs_most c.args.n c.if-n-gt32.false)
+pub slice_bounds-pair-items-start : goal.slice_bounds-pair-items-start
+slice_bounds-pair-items-start c =
+    omega (arith, ap length c.as_slice-short.ensures, short_length c.args.n (items_of c.list_short-list.result) c.list_short-list.ensures.words)
 
 -- one pair more
-pub loop-place-preserved : goal.loop-place-preserved
-loop-place-preserved c =
+pub loop-pair-preserved : goal.loop-pair-preserved
+loop-pair-preserved c =
     let n = c.args.n in
     let ws = c.args.words.now in
-    let place = c.loop-place.place in
-    let bytes = c.loop-place.bytes in
-    let inv = c.loop-place.invariant in
-    let j = place - n in
-    let byte = c.from.result in
+    let i = c.loop-pair.pair-index in
+    let ss = c.as_slice-short.result.now in
     let rows = basis_rows c.admit_all.new.self in
-    let count = c.list_short-len.ensures.count in
     let p = c.admit_all.ensures in
     let b = from_none two lawful_two n ws rows (rw c.new-basis.ensures at p) in
-    let at : place ≡ n + j = omega (arith, c.loop-place.auto.place) in
-    let few = pairs_most n c.if-n-gt32.false in
-    let lj : j < length (pairs n) = omega (arith, c.loop-place-test.true, short_length n) in
-    let next : place + 1 - n ≡ j + 1 = omega arith in
-    let decides : Decides c.alone.result (Alone c.list_short-len.new.short c.reduce_all.new.least c.list_short-len.result (n + j)) =
-    subst (λ t. Decides c.alone.result (Alone c.list_short-len.new.short c.reduce_all.new.least c.list_short-len.result t)) at c.alone.ensures in
-    let value : byte ≡ clear_byte n ws (get_or (pairs n) j 0) =
-    c.from.ensures ∙ byte_cond c.alone.result
-    ∙ pair-byte n c.if-n-gt32.false ws rows b.0 b.1 c.list_short-len.new.short c.reduce_all.new.least c.list_short-len.result count c.list_short-len.ensures.front c.reduce_all.ensures
-    j lj c.alone.result decides in (
-      ap (λ k. take k (set bytes j byte)) next
-          ∙ take_more_set bytes j byte (omega (arith, inv.1))
-          ∙ ap (λ xs. xs ++ byte ∷ []) inv.0
-          ∙ ap (λ x. map (clear_byte n ws) (take j (pairs n)) ++ x ∷ []) value
-          ∙ sym (map_more (clear_byte n ws) (pairs n) j 0 lj)
-          ∙ ap (λ k. map (clear_byte n ws) (take k (pairs n))) (sym next),
-      length-set bytes j byte ∙ inv.1,
-    )
-
--- the letters are among the short words
-pub overflow_sub-result : goal.overflow_sub-result
-overflow_sub-result c = omega (arith, c.list_short-len.ensures.count, short_length c.args.n)
-
--- the pairs have room
-pub invariant_of-result-2 : goal.invariant_of-result-2
-invariant_of-result-2 c =
-    record { few = omega (arith, c.list_short-len.ensures.count, short_length c.args.n, pairs_most c.args.n c.if-n-gt32.false) }
+    let words : map (λ s. s.word) ss ≡ short_words n = ap (map (λ s. s.word)) c.as_slice-short.ensures ∙ c.list_short-list.ensures.words in
+    let least = subst (LeastAliases n rows) (sym c.as_slice-short.ensures) c.list_short-list.ensures.least in
+    let some : Short = record { word = 0; least = 0 } in
+    let m = c.from.result in
+    let k = length ss - m in
+    let lk : i < k = omega (arith, c.loop-pair-test.true, length-take k (drop m ss)) in
+    let lp : i < length (pairs n) = omega (arith, short_length n ss words, c.from.ensures) in
+    let pair = get_or (take k (drop m ss)) i some in
+    let is : pair ≡ get_or ss (n + i) some = get_or-take k (drop m ss) i some lk ∙ get_or-drop m ss i some ∙ ap (λ q. get_or ss (q + i) some) c.from.ensures in
+    bytes_more (clear_byte n ws) (pairs n) (pairs_most n c.if-n-gt32.false) i c.from-in-loop-pair.result (items_of c.loop-pair.bytes) (items_of c.push.new.self) lp
+    (c.from-in-loop-pair.ensures ∙ byte_cond c.is_alone.result ∙ pair-byte n c.if-n-gt32.false ws rows b.0 b.1 ss words least i some lp pair is c.is_alone.result c.is_alone.ensures)
+    c.push.ensures c.loop-pair.invariant
 
 -- all pairs have their bytes
 pub returns : goal.returns
 returns c high =
     let n = c.args.n in
-    let ws = c.args.words.now in
-    let k = c.list_short-len.result - n in
-    let whole : length (pairs n) ≤ k = omega (arith, c.list_short-len.ensures.count, short_length n) in
-    let end : c.loop-place.place ≡ c.list_short-len.result =
-    omega (arith, c.loop-place-test.false, c.loop-place.auto.place-end (omega (arith, c.list_short-len.ensures.count, short_length n))) in
-    ap (λ p. take (p - n) c.loop-place.bytes) (sym end)
-    ∙ c.loop-place.invariant.0
-    ∙ ap (λ p. map (clear_byte n ws) (take (p - n) (pairs n))) end
-    ∙ ap (map (clear_byte n ws)) (take_all k (pairs n) whole)
+    let i = c.loop-pair.pair-index in
+    let ss = c.as_slice-short.result.now in
+    let k = length ss - n in
+    let words : map (λ s. s.word) ss ≡ short_words n = ap (map (λ s. s.word)) c.as_slice-short.ensures ∙ c.list_short-list.ensures.words in
+    let whole : length (pairs n) ≤ i = omega (arith, c.loop-pair-test.false, length-take k (drop n ss), length-drop n ss, short_length n ss words) in
+    c.loop-pair.invariant ∙ ap (map (clear_byte n c.args.words.now)) (take_all i (pairs n) whole)

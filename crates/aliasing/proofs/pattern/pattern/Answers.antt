@@ -1,8 +1,9 @@
-use Rattle.std.proofs.Common.{◌≡◌, ℕ, suc, ◌+◌, ◌-◌, ◌/◌, ◌<◌, ◌≤◌, length, get_or, replicate, sym, ap, ◌∙◌, add-one, arith, below_more}
-use Rattle.std.proofs.lemmas.List.{get_or-replicate, length-set, get_or-set_same, get_or-set_other}
+use Rattle.std.proofs.Common.{◌≡◌, ℕ, suc, ◌+◌, ◌-◌, ◌/◌, ◌<◌, ◌≤◌, ◌^◌, length, get_or, replicate, sym, ap, ◌∙◌, add-one, arith}
+use Rattle.std.proofs.lemmas.List.{get_or-replicate}
 use Rattle.levels.specs.Generated.{generated}
 use Rattle.levels.specs.Alias.{tallied}
 use Rattle.aliasing.specs.Pattern.{count}
+use Rattle.aliasing.proofs.Called.{each_called}
 use Rattle.aliasing.proofs.Counts.{tallied-none, tallied-count, count_fits, pattern_front}
 use Rattle.aliasing.proofs.Exact.{generated_divides}
 use Rattle.aliasing.proofs.pattern.pattern.Goals as goal
@@ -23,39 +24,25 @@ returns-then-repeats-eq0 g c =
       exact = generated_divides A L n ws;
     }
 
--- one count more
-pub loop-i-preserved : goal.loop-i-preserved
-loop-i-preserved g c =
+-- the tally of each length, divided by the repeats and by s − 1
+pub returns : goal.returns
+returns g c =
     let A = g.L.Levels.model in
     let L = g.met.L.Levels.lawful in
     let n = c.args.n in
     let ws = c.args.words.now in
-    let i = c.loop-i.i in
-    let inv = c.loop-i.invariant in
-    let lt : i < length c.loop-i.counts = omega (arith, inv.0, c.loop-i-test.true) in
+    let all = c.tally-all.result in
+    let levels : c.from.result ≡ A.s = c.from.ensures ∙ c.LEVELS.ensures ∙ g.met.L.Levels.levels in
+    let amount : ℕ → ℕ = λ i. get_or all (i + 1) 0 / get_or all 0 0 / (c.from.result - 1) in
+    let fitted : (i : ℕ) → i < 32 → amount i < 2 ^ 32 → get_or c.from_fn.result i 0 ≡ amount i
+    = λ i l. each_called _ (λ i y. amount i < 2 ^ 32 → y ≡ amount i) _ c.from_fn.result 32 0 c.from_fn.ensures.items.each (λ x y q k. let h = k.met.0 in let e = k.met.1 in (λ j. (e.0 j, e.1 j, e.2 j), λ l. grind (arith, h))) i (omega arith) l in
     let zeros = c.tally-all.ensures 0 (omega arith) in
-    let here = c.tally-all.ensures (i + 1) (omega (arith, c.loop-i-test.true)) in
-    let levels : c.from-multiples.result ≡ A.s = c.from-multiples.ensures ∙ c.get.ensures ∙ g.met.L.Levels.levels in
-    let quotient : length ws ≤ 16 → get_or c.tally-all.result (i + 1) 0 / get_or c.tally-all.result 0 0 / (c.from-multiples.result - 1) ≡ count A (generated A n ws) (i + 1)
-    = λ few. cc (tallied-count A L n ws few (λ e. c.if-repeats-eq0.false (zeros ∙ e)) (i + 1)) in (
-      length-set c.loop-i.counts i c.fitting.result ∙ inv.0,
-      λ few. below_more _ i
-          (λ k h. get_or-set_other c.loop-i.counts i k c.fitting.result 0 (λ e. omega arith) ∙ inv.1 few k h)
-          (get_or-set_same c.loop-i.counts i c.fitting.result 0 lt
-          ∙ c.fitting.ensures (omega (arith, quotient few, count_fits A L n ws few (i + 1) (omega arith)))
-          ∙ quotient few ∙ ap (count A (generated A n ws)) (add-one i)),
-    )
-
--- all counts
-pub returns : goal.returns
-returns g c =
-    let A = g.L.Levels.model in
-    let n = c.args.n in
-    let ws = c.args.words.now in
-    let inv = c.loop-i.invariant in
-    let end = c.loop-i-test.false in
+    let quotient : length ws ≤ 16 → (i : ℕ) → i < 32 → amount i ≡ count A (generated A n ws) (i + 1)
+    = λ few i l. let here = c.tally-all.ensures (i + 1) (omega arith) in cc (tallied-count A L n ws few (λ e. c.if-repeats-eq0.false (zeros ∙ e)) (i + 1)) in
+    let counts : length ws ≤ 16 → (i : ℕ) → i < 32 → get_or c.from_fn.result i 0 ≡ count A (generated A n ws) (suc i)
+    = λ few i l. fitted i l (omega (arith, quotient few i l, count_fits A L n ws few (i + 1) (omega arith))) ∙ quotient few i l ∙ ap (count A (generated A n ws)) (add-one i) in
     record {
-      counts = λ few i l. inv.1 few i (omega arith);
-      front = λ few high. pattern_front A (generated A n ws) n c.loop-i.counts (omega (arith, inv.0)) (λ i l. inv.1 few i (omega arith));
-      exact = generated_divides A g.met.L.Levels.lawful n ws;
+      counts = counts;
+      front = λ few high. pattern_front A (generated A n ws) n c.from_fn.result (omega (arith, c.from_fn.ensures.items.long)) (λ i l. counts few i (omega arith));
+      exact = generated_divides A L n ws;
     }

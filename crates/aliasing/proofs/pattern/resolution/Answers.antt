@@ -5,8 +5,8 @@ use Rattle.aliasing.proofs.Resolved.{found_law, none_law, law_resolution, law_ab
 use Rattle.aliasing.proofs.pattern.resolution.Goals as goal
 
 -- the first positive count
-pub returns-then-counts-place-gt0 : goal.returns-then-counts-place-gt0
-returns-then-counts-place-gt0 g c =
+pub returns-then-count-gt0 : goal.returns-then-count-gt0
+returns-then-count-gt0 g c =
     let A = g.L.Levels.model in
     let L = g.met.L.Levels.lawful in
     let n = c.args.n in
@@ -14,7 +14,7 @@ returns-then-counts-place-gt0 g c =
     let xs = c.pattern-counts.result in
     let i = c.loop-place.place in
     let law : length ws ≤ 16 → ResolutionLaw A n (generated A n ws) (Some (i + 1, get_or xs i 0))
-    = λ few. found_law A L n ws xs (c.pattern-counts.ensures.counts few) i c.loop-place-test.true c.if-counts-place-gt0.true c.loop-place.invariant in
+    = λ few. found_law A L n ws xs (c.pattern-counts.ensures.counts few) i c.loop-place-test.true c.if-count-gt0.true c.loop-place.invariant in
     record {
       least = λ few. law_resolution A L n ws (Some (i + 1, get_or xs i 0)) (law few);
       law = law;

@@ -1,52 +1,74 @@
-use Rattle.std.proofs.Common.{◌≡◌, ℕ, ◌+◌, ◌*◌, ◌^◌, ◌<◌, ◌≤◌, min, length, get_or, drop, sym, ap, ◌∙◌, subst, add-zero, one-mul, zero-mul, arith}
+use Rattle.std.proofs.Common.{◌++◌, [], ◌∷◌, eqb, ◌%◌, ◌≡◌, ℕ, pow-suc, add-one, zero-add, ◌+◌, ◌*◌, ◌^◌, ◌<◌, ◌≤◌, length, List, get_or, take, drop, sym, ap, ◌∙◌, subst, add-zero, one-mul, zero-mul, length-take, arith}
+use Rattle.std.specs.List.{enumerate_from}
+use Rattle.std.proofs.lemmas.Iterator.{YieldsList-from_slice, YieldsList-from_take}
+use Rattle.std.proofs.lemmas.Iterator.Consumers.{YieldsList-from_enumerate, YieldsList-turn, YieldsList-end}
 use Rattle.std.proofs.lemmas.Nat.{one_shl}
-use Rattle.std.proofs.lemmas.List.{at_drop_all}
+use Rattle.std.proofs.lemmas.List.FromFn.{get_or-enumerate_from, length-enumerate_from}
 use Rattle.std.proofs.lemmas.Bool.{eqb-true, eqb-false}
+use Rattle.std.proofs.lemmas.List.{at_drop_all, get_or-take, get_or_default, length_push}
 use Rattle.aliasing.specs.Table.{odd, block_bits}
-use Rattle.aliasing.proofs.Parity.{block_next, digit_fits, digit_kept, block_number_bits}
 use Rattle.aliasing.proofs.Evens.{word_below}
+use Rattle.aliasing.proofs.Parity.{block_next, block_number_bits}
 use Rattle.aliasing.proofs.runs.block_number.Goals as goal
-use Rattle.aliasing.proofs.runs.block_number.Goals.{then-i-lt-BLOCK_WORDS+then-parity, else-i-lt-BLOCK_WORDS, else-i-lt-BLOCK_WORDS-via-then-i-lt-BLOCK_WORDS+else-parity, else-i-lt-BLOCK_WORDS-via-else-i-lt-BLOCK_WORDS}
 
--- no place beyond the list
-beyond : (i l : ℕ) → 16 ≤ i → i < l → l ≤ 16 → ⊥
-beyond i l a b c = omega arith
+-- an item of the first 16 has its place, and is the word there
+placed : (ws : List ℕ) (i k w : ℕ) → (k < length (enumerate_from 0 (take 16 ws))) × ((i, w) ≡ get_or (enumerate_from 0 (take 16 ws)) k (i, w)) →
+    (k < 16) × (k < length ws) × (i ≡ k) × (w ≡ get_or ws k 0)
+placed ws i k w h =
+    let front = take 16 ws in
+    let within : k < length front = omega (arith, h.0, length-enumerate_from 0 front) in
+    let size = length-take 16 ws in
+    let low : k < 16 = omega arith in
+    let few : k < length ws = omega arith in
+    let at = h.1 ∙ get_or-enumerate_from 0 front k (i, w) within in
+    (low, few, ap (λ p. p.0) at ∙ zero-add k, ap (λ p. p.1) at ∙ get_or-take 16 ws k w low ∙ get_or_default ws k w 0 few)
+
+-- the digit is not cut off
+fits : (number k : ℕ) → number < 2 ^ k → number + 2 ^ k < 2 ^ (k + 1)
+fits number k h = omega (arith, pow-suc 2 k, ap (λ i. 2 ^ i) (add-one k))
 
 -- one digit more
+pub loop-i-preserved-then-parity : goal.loop-i-preserved-then-parity
+loop-i-preserved-then-parity c =
+    let x = c.args.run in
+    let ws = c.args.words.now in
+    let k = length c.loop-i.yielded in
+    let number = c.loop-i.number in
+    let t = YieldsList-turn (YieldsList-from_enumerate (YieldsList-from_take 16 (YieldsList-from_slice ws cc) cc) cc) c.loop-i.yielded _ c.loop-i.yielded_by _ _ (c.in-Some.i, c.in-Some.word) c.in-Some.is c.next.ensures.steps in
+    let at = placed ws c.in-Some.i k c.in-Some.word.now t in
+    let size : length (c.loop-i.yielded ++ (c.in-Some.i, c.in-Some.word) ∷ []) ≡ k + 1 = length_push c.loop-i.yielded (c.in-Some.i, c.in-Some.word) in
+    let one : odd x (get_or ws k 0) ≡ 1 = eqb-true (odd x (get_or ws k 0)) 1 (ap (λ w. eqb (odd x w) 1) (sym at.3) ∙ sym c.parity.ensures.bits ∙ c.if-parity.true) in
+    let digit : 1 * 2 ^ c.in-Some.i % 2 ^ 32 ≡ 2 ^ k = ap (λ i. 1 * 2 ^ i % 2 ^ 32) at.2 ∙ one_shl k 32 (omega (arith, at.0)) in
+    let now = ap (λ d. number + d) digit in
+    rw size (
+      subst (λ y. y < 2 ^ (k + 1)) (sym now) (fits number k c.loop-i.invariant.0),
+      block_next x ws k number (number + 1 * 2 ^ c.in-Some.i % 2 ^ 32) (block_bits x ws) at.1 (now ∙ ap (λ d. number + d) (sym (ap (λ d. d * 2 ^ k) one ∙ one-mul (2 ^ k)))) c.loop-i.invariant.1,
+    )
+
+-- no digit more
 pub loop-i-preserved : goal.loop-i-preserved
 loop-i-preserved c =
     let x = c.args.run in
     let ws = c.args.words.now in
-    let i = c.loop-i.i in
-    let o = odd x (get_or ws i 0) in
+    let k = length c.loop-i.yielded in
     let number = c.loop-i.number in
-    let next : c.if-i-lt-BLOCK_WORDS.number ≡ number + o * 2 ^ i → length ws ≤ 16 →
-    c.if-i-lt-BLOCK_WORDS.number + block_bits x (drop (i + 1) ws) * 2 ^ (i + 1) ≡ block_bits x ws =
-    λ e few. block_next x ws i number c.if-i-lt-BLOCK_WORDS.number (block_bits x ws) c.loop-i-test.true e (c.loop-i.invariant.1 few) in
-    elim c.if-i-lt-BLOCK_WORDS.branch [
-      | then-i-lt-BLOCK_WORDS+then-parity w ↦
-          let one : o ≡ 1 = eqb-true o 1 (sym w.parity.ensures.bits ∙ w.if-parity.true) in
-          let now : c.if-i-lt-BLOCK_WORDS.number ≡ number + 2 ^ i = w.number-is ∙ ap (λ k. number + k) (one_shl i 32 (omega (arith, w.if-i-lt-BLOCK_WORDS.true))) in (
-            subst (λ k. k < 2 ^ min (i + 1) 16) (sym now) (digit_fits number i (omega (arith, w.if-i-lt-BLOCK_WORDS.true)) c.loop-i.invariant.0),
-            next (now ∙ ap (λ k. number + k) (sym (ap (λ d. d * 2 ^ i) one ∙ one-mul (2 ^ i)))),
-          )
-      | else-i-lt-BLOCK_WORDS w ↦
-          let same = w.number-is in (
-            subst (λ k. k < 2 ^ min (i + 1) 16) (sym same) (digit_kept number i c.loop-i.invariant.0),
-            λ few. elim w.else-i-lt-BLOCK_WORDS.branch [
-              | else-i-lt-BLOCK_WORDS-via-then-i-lt-BLOCK_WORDS+else-parity v ↦
-                  let none : o ≡ 0 = omega (arith, eqb-false o 1 (sym v.parity.ensures.bits ∙ v.if-parity.false)) in
-                  next (same ∙ sym (ap (λ d. number + d * 2 ^ i) none ∙ ap (λ k. number + k) (zero-mul (2 ^ i)) ∙ add-zero number)) few
-              | else-i-lt-BLOCK_WORDS-via-else-i-lt-BLOCK_WORDS v ↦ elim (beyond i (length ws) v.if-i-lt-BLOCK_WORDS.false c.loop-i-test.true few) [ ]
-            ],
-          )
-    ]
+    let t = YieldsList-turn (YieldsList-from_enumerate (YieldsList-from_take 16 (YieldsList-from_slice ws cc) cc) cc) c.loop-i.yielded _ c.loop-i.yielded_by _ _ (c.in-Some.i, c.in-Some.word) c.in-Some.is c.next.ensures.steps in
+    let at = placed ws c.in-Some.i k c.in-Some.word.now t in
+    let size : length (c.loop-i.yielded ++ (c.in-Some.i, c.in-Some.word) ∷ []) ≡ k + 1 = length_push c.loop-i.yielded (c.in-Some.i, c.in-Some.word) in
+    let none : odd x (get_or ws k 0) ≡ 0 = omega (arith, eqb-false (odd x (get_or ws k 0)) 1 (ap (λ w. eqb (odd x w) 1) (sym at.3) ∙ sym c.parity.ensures.bits ∙ c.if-parity.false)) in
+    rw size (
+      omega (arith, c.loop-i.invariant.0, fits number k c.loop-i.invariant.0),
+      block_next x ws k number number (block_bits x ws) at.1 (sym (ap (λ d. number + d * 2 ^ k) none ∙ ap (λ d. number + d) (zero-mul (2 ^ k)) ∙ add-zero number)) c.loop-i.invariant.1,
+    )
 
 -- no word is left
 pub returns : goal.returns
 returns c n hr all few =
     let x = c.args.run in
     let ws = c.args.words.now in
-    let none : block_bits x (drop c.loop-i.i ws) ≡ 0 = at_drop_all (block_bits x) ws c.loop-i.i c.loop-i-test.false in
-    let rest : block_bits x (drop c.loop-i.i ws) * 2 ^ c.loop-i.i ≡ 0 = ap (λ k. k * 2 ^ c.loop-i.i) none ∙ zero-mul (2 ^ c.loop-i.i) in
-    omega (arith, c.loop-i.invariant.1 few, rest, block_number_bits n x ws (word_below n x hr))
+    let k = length c.loop-i.yielded in
+    let t = YieldsList-end (YieldsList-from_enumerate (YieldsList-from_take 16 (YieldsList-from_slice ws cc) cc) cc) c.loop-i.yielded _ c.loop-i.yielded_by _ _ c.in-None.is c.next.ensures.steps in
+    let past : length ws ≤ k = omega (arith, t.1, length-enumerate_from 0 (take 16 ws), length-take 16 ws, few) in
+    let none : block_bits x (drop k ws) ≡ 0 = at_drop_all (block_bits x) ws k past in
+    let rest : block_bits x (drop k ws) * 2 ^ k ≡ 0 = ap (λ d. d * 2 ^ k) none ∙ zero-mul (2 ^ k) in
+    omega (arith, c.loop-i.invariant.1, rest, block_number_bits n x ws (word_below n x hr))

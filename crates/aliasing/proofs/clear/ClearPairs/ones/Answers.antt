@@ -1,24 +1,12 @@
-use Rattle.std.proofs.Common.{◌≤◌, length, ap, ◌∙◌, arith, length-take}
-use Rattle.std.proofs.lemmas.List.{take_all}
-use Rattle.aliasing.specs.Clear.{ones_in}
-use Rattle.aliasing.proofs.Shorts.{ones_more}
+use Rattle.std.proofs.Common.{◌≤◌, length, ap, arith, length-take}
+use borrow.Author.Tests.{tests}
+use Rattle.std.proofs.lemmas.Iterator.{YieldsList-from_slice}
+use Rattle.std.proofs.lemmas.Iterator.Adapters.{fits_from_length, at_most_from_yields_List}
+use Rattle.std.proofs.Common.{rules}
 use Rattle.aliasing.proofs.clear.ClearPairs.ones.Goals as goal
 
 -- at most 496 bytes are added
-pub overflow_add-ones : goal.overflow_add-ones
-overflow_add-ones c =
-    let self = c.args.self.now in
-    let few : length c.bytes-byte-items.result.now ≤ 496 = omega (arith, ap length c.bytes-byte-items.ensures, length-take self.len self.bytes, self.few) in
-    omega (arith, c.loop-byte.invariant.1)
-
--- one byte more
-pub loop-byte-preserved : goal.loop-byte-preserved
-loop-byte-preserved c =
-    let more = ones_more c.bytes-byte-items.result.now c.loop-byte.byte-index c.loop-byte-test.true in
-    (omega (arith, c.loop-byte.invariant.0), omega (arith, c.loop-byte.invariant.1))
-
--- all bytes are added
-pub returns : goal.returns
-returns c =
-    c.loop-byte.invariant.0
-    ∙ ap ones_in (take_all c.loop-byte.byte-index c.bytes-byte-items.result.now c.loop-byte-test.false ∙ c.bytes-byte-items.ensures)
+pub sum-requires-clause-fits : goal.sum-requires-clause-fits
+sum-requires-clause-fits c =
+    let few : length c.bytes.result.now ≤ 496 = let b = c.args.self.now.bytes in omega (arith, ap length c.bytes.ensures, length-take b.len b.places, b.few) in
+    fits_from_length _ _ 496 _ (at_most_from_yields_List (YieldsList-from_slice c.bytes.result.now cc) few) c.map.ensures.closure (omega arith) (λ x r q k. search (rules, tests))
