@@ -1,3 +1,2 @@
 pub mod Membership
 pub mod Outcomes
-pub mod Tables

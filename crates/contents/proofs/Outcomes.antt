@@ -1,6 +1,6 @@
 -- What is known where a chain of checks ends in Ok.
-use Rattle.std.proofs.Common.{◌≡◌, ℕ, ◌-◌, ◌<◌, ◌≤◌, Bool, true, false, cond, ◌&&◌, ltb, leb, List, [], ◌∷◌, ◌++◌, length, take, drop, Ok, Err, Result, sym, refl, ap, ◌∙◌, arith}
-use Rattle.std.proofs.lemmas.Bool.{and_parts, leb-true, ltb-true, lt-ltb, le-ltb, cond-true, cond-false}
+use Rattle.std.proofs.Common.{◌≡◌, ℕ, ◌-◌, ◌<◌, ◌≤◌, Bool, true, false, cond, ◌&&◌, ltb, leb, List, [], ◌∷◌, ◌++◌, length, take, drop, Ok, Err, Result, sym, refl, ap, arith}
+use Rattle.std.proofs.lemmas.Bool.{and_parts, leb-true, ltb-true}
 use Rattle.levels.specs.Arithmetic.{Arithmetic}
 use Rattle.levels.specs.Words.{legal}
 use Rattle.levels.specs.Generated.{generated, holds}
@@ -26,6 +26,15 @@ passed false r e x h = absurd (err_not_ok e x h)
 pub failed : {T E : Type 0} (b : Bool) (r : Result T E) (e : E) (x : T) → cond b (Err e) r ≡ Ok x → (b ≡ false) × (r ≡ Ok x)
 failed true r e x h = absurd (err_not_ok e x h)
 failed false r e x h = (refl, h)
+
+-- one step after another, as `?` runs them
+abbrev pub and_then : {T U E : Type 0} → Result T E → (T → Result U E) → Result U E
+and_then r k = elim r [ Ok x ↦ k x | Err e ↦ Err e ]
+
+-- a step after another that ended in success
+pub then_ok : {T U E : Type 0} (r : Result T E) (k : T → Result U E) (y : U) → and_then r k ≡ Ok y → (x : T) × (r ≡ Ok x) × (k x ≡ Ok y)
+then_ok (Ok x) k y h = (x, refl, h)
+then_ok (Err e) k y h = absurd (err_not_ok e y h)
 
 -- a plan that was started
 pub record Started (n : ℕ) (q : Content) : Type 0 where
@@ -70,29 +79,7 @@ struck_ok side place p q h =
 
 -- the words that were admitted in a row, one by one
 pub admitted_all_ok : (A : Arithmetic) (side : Side) (w : ℕ) (ws : List ℕ) (p q : Content) → admitted_all A side (w ∷ ws) p ≡ Ok q → (r : Content) × (admitted A side w p ≡ Ok r) × (admitted_all A side ws r ≡ Ok q)
-admitted_all_ok A side w ws p q h = by (admitted A side w p) refl h
-  where
-    by : (m : Result Content Refusal) → admitted A side w p ≡ m → ◌≡◌ {A = Result Content Refusal} (elim m [ Ok r ↦ admitted_all A side ws r | Err e ↦ Err e ]) (Ok q) → (r : Content) × (admitted A side w p ≡ Ok r) × (admitted_all A side ws r ≡ Ok q)
-    by (Ok r) e h = (r, e, h)
-    by (Err e) f h = absurd (err_not_ok e q h)
-
--- a legal, fresh word within the limit may be admitted
-pub admissible_yes : (A : Arithmetic) (w : ℕ) (p : Content) → legal A p.factors w ≡ true → holds (generated A p.factors (both p)) w ≡ false → length (both p) < A.limit → admissible A w p ≡ Ok tt
-admissible_yes A w p lawful fresh room =
-    let known = holds (generated A p.factors (both p)) w in
-    let full : Result (Unit {0}) Refusal = cond (ltb (length (both p)) A.limit) (Ok tt) (Err Limit) in
-    cond-true (legal A p.factors w) (cond known (Err Generated) full) (Err Illegal) lawful
-    ∙ cond-false known (Err Generated) full fresh
-    ∙ cond-true (ltb (length (both p)) A.limit) (Ok tt) (Err Limit) (lt-ltb (length (both p)) A.limit room)
-
--- one word too many may not
-pub admissible_limit : (A : Arithmetic) (w : ℕ) (p : Content) → legal A p.factors w ≡ true → holds (generated A p.factors (both p)) w ≡ false → A.limit ≤ length (both p) → admissible A w p ≡ Err Limit
-admissible_limit A w p lawful fresh full =
-    let known = holds (generated A p.factors (both p)) w in
-    let rest : Result (Unit {0}) Refusal = cond (ltb (length (both p)) A.limit) (Ok tt) (Err Limit) in
-    cond-true (legal A p.factors w) (cond known (Err Generated) rest) (Err Illegal) lawful
-    ∙ cond-false known (Err Generated) rest fresh
-    ∙ cond-false (ltb (length (both p)) A.limit) (Ok tt) (Err Limit) (le-ltb (length (both p)) A.limit full)
+admitted_all_ok A side w ws p q h = then_ok (admitted A side w p) (admitted_all A side ws) q h
 
 -- a word that may be admitted
 pub record Admissible (A : Arithmetic) (w : ℕ) (p : Content) : Type 0 where
@@ -121,10 +108,8 @@ acts_done (Err d) before now answer h f = let z : ◌≡◌ {A = ℕ} 0 1 = cc (
 
 -- the first of several words is refused
 pub all_refused : (A : Arithmetic) (side : Side) (w : ℕ) (ws : List ℕ) (p : Content) (e : Refusal) → admitted A side w p ≡ Err e → admitted_all A side (w ∷ ws) p ≡ Err e
-all_refused A side w ws p e h =
-    ap (λ (m : Result Content Refusal). let out : Result Content Refusal = elim m [ Ok v ↦ admitted_all A side ws v | Err x ↦ Err x ] in out) h
+all_refused A side w ws p e h = ap (λ m. and_then m (admitted_all A side ws)) h
 
 -- the first of several words is admitted
 pub all_onward : (A : Arithmetic) (side : Side) (w : ℕ) (ws : List ℕ) (p q : Content) → admitted A side w p ≡ Ok q → admitted_all A side (w ∷ ws) p ≡ admitted_all A side ws q
-all_onward A side w ws p q h =
-    ap (λ (m : Result Content Refusal). let out : Result Content Refusal = elim m [ Ok v ↦ admitted_all A side ws v | Err x ↦ Err x ] in out) h
+all_onward A side w ws p q h = ap (λ m. and_then m (admitted_all A side ws)) h

@@ -60,10 +60,6 @@ struck side place p =
     (Ok (with_side side (take (place - 1) (side_of side p) ++ drop place (side_of side p)) p))
     (Err Place)
 
--- whether there is a word at a place, from 1
-abbrev pub placed : Side → ℕ → Content → Result (Unit {0}) Refusal
-placed side place p = cond (nat_le 1 place && nat_le place (length (side_of side p))) (Ok tt) (Err Place)
-
 -- the word at a place of one list, from 1
 abbrev pub word_at : Side → ℕ → Content → Result ℕ Refusal
 word_at side place p =

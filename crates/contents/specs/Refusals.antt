@@ -1,5 +1,5 @@
 -- The number of each refusal.
-use Rattle.std.specs.Prelude.{ℕ}
+use Rattle.std.specs.Prelude.{ℕ, List, ◌++◌, codes, decimal}
 use Rattle.contents.specs.declared.refusal.Refusal.{Refusal}
 use Rattle.contents.specs.declared.refusal.Refusal.TheVariants.{Factors, Illegal, Generated, Limit, Place, Memory, Cut, Mark, Version, Levels, Surplus, Last}
 
@@ -17,3 +17,7 @@ number_of Version = 9
 number_of Levels = 10
 number_of Surplus = 11
 number_of Last = 12
+
+-- a refusal is printed by its number in base ten
+abbrev pub refusal_text : Refusal → List ℕ
+refusal_text refusal = codes "refused " ++ decimal (number_of refusal)

@@ -1,13 +1,12 @@
 // Words are admitted to a plan and struck from it.
 ghost use Rattle.std.specs.Prelude.{◌≡◌};
 ghost use Rattle.levels.specs.Generated.{generated, holds};
-ghost use Rattle.contents.specs.Content.{Acts, admissible, admitted, both, placed, struck, word_at};
+ghost use Rattle.contents.specs.Content.{Acts, admissible, admitted, both, struck, word_at};
 ghost use Rattle.contents.specs.Held.{content_of};
 
 use crate::content::PlanContent;
 use crate::refusal::Refusal;
 use crate::side::Side;
-use levels::number::Number;
 use levels::{Levels, basis};
 
 impl PlanContent {
@@ -26,7 +25,7 @@ impl PlanContent {
             Err(Refusal::Illegal)
         } else if self.generates::<L>(word) {
             Err(Refusal::Generated)
-        } else if self.defining.len() + self.block.len() < L::LIMIT.get() as usize {
+        } else if self.defining.len() + self.block.len() < L::LIMIT {
             Ok(())
         } else {
             Err(Refusal::Limit)
@@ -42,22 +41,11 @@ impl PlanContent {
         Ok(())
     }
 
-    // Whether one list has a word at a place, from 1.
-    fn placed(&self, side: Side, place: usize) -> Result<(), Refusal>
-        ensures { result ≡ placed side place (content_of self.now) }
-    {
-        if 1 <= place && place <= self.list(side).len() {
-            Ok(())
-        } else {
-            Err(Refusal::Place)
-        }
-    }
-
     // The word at a place of one list, from 1, is struck.
     pub fn strike(&mut self, side: Side, place: usize) -> Result<(), Refusal>
         ensures { Acts (struck side place (content_of self.old)) (content_of self.old) (content_of self.new) result }
     {
-        self.placed(side, place)?;
+        self.word(side, place)?;
         self.remove(side, place - 1);
         Ok(())
     }
@@ -66,7 +54,11 @@ impl PlanContent {
     pub fn word(&self, side: Side, place: usize) -> Result<u64, Refusal>
         ensures { result ≡ word_at side place (content_of self.now) }
     {
-        self.placed(side, place)?;
-        Ok(self.list(side).as_slice()[place - 1])
+        let before = place.checked_sub(1).ok_or(Refusal::Place)?;
+        self.list(side)
+            .as_slice()
+            .get(before)
+            .copied()
+            .ok_or(Refusal::Place)
     }
 }

@@ -3,8 +3,6 @@
 
 mod admission;
 pub mod content;
-mod held;
-pub mod list;
 pub mod memory;
 pub mod refusal;
 pub mod side;

@@ -12,6 +12,6 @@ pub fn store<T: Copy>(answer: &[T], memory: &mut [T]) -> Result<usize, Refusal>
     if memory.len() < answer.len() {
         return Err(Refusal::Memory);
     }
-    memory[0..answer.len()].copy_from_slice(answer);
+    memory[..answer.len()].copy_from_slice(answer);
     Ok(answer.len())
 }

@@ -1,53 +1,64 @@
 // Why a call is refused.
-ghost use Rattle.std.specs.Prelude.{◌≡◌};
-ghost use Rattle.contents.specs.Refusals.{number_of};
+ghost use Rattle.std.specs.Prelude.{◌≡◌, Some};
+ghost use Rattle.contents.specs.Refusals.{number_of, refusal_text};
+
+use std::error::Error;
+use std::fmt;
 
 #[derive(Clone, Copy, PartialEq, Eq, Debug)]
 pub enum Refusal {
     // the number of factors is not from 1 to 32
-    Factors,
+    Factors = 1,
     // a code is illegal
-    Illegal,
+    Illegal = 2,
     // the word is generated already
-    Generated,
+    Generated = 3,
     // more words than the limit
-    Limit,
+    Limit = 4,
     // there is no word at this place
-    Place,
+    Place = 5,
     // the memory is shorter than the answer
-    Memory,
+    Memory = 6,
     // the file is cut short
-    Cut,
+    Cut = 7,
     // the file's mark is not DWF
-    Mark,
+    Mark = 8,
     // the file's version is not 1
-    Version,
+    Version = 9,
     // the file's levels are not the plan's
-    Levels,
+    Levels = 10,
     // bytes follow the end of the file's content
-    Surplus,
+    Surplus = 11,
     // the number is past the last
-    Last,
+    Last = 12,
 }
 
 impl Refusal {
-    // The number by which a refusal is reported.
+    // The number by which a refusal is reported, for callers that name it.
     pub fn number(self) -> u8
         ensures { result ≡ number_of self }
     {
-        match self {
-            Refusal::Factors => 1,
-            Refusal::Illegal => 2,
-            Refusal::Generated => 3,
-            Refusal::Limit => 4,
-            Refusal::Place => 5,
-            Refusal::Memory => 6,
-            Refusal::Cut => 7,
-            Refusal::Mark => 8,
-            Refusal::Version => 9,
-            Refusal::Levels => 10,
-            Refusal::Surplus => 11,
-            Refusal::Last => 12,
-        }
+        self as u8
     }
 }
+
+// A refusal as its number.
+impl From<Refusal> for u8 {
+    ghost from_gives = { λ refusal number. number ≡ number_of refusal };
+
+    fn from(refusal: Refusal) -> u8 {
+        refusal.number()
+    }
+}
+
+// A refusal is printed with its number.
+impl fmt::Display for Refusal {
+    ghost output = { λ refusal. Some (refusal_text refusal) };
+
+    fn fmt<W: fmt::Write>(&self, f: &mut fmt::Formatter<W>) -> fmt::Result {
+        let number = u8::from(*self);
+        write!(f, "refused {number}")
+    }
+}
+
+impl Error for Refusal {}

@@ -1,7 +1,10 @@
 -- Numbers and words in bytes, and back.
-use Rattle.std.proofs.Common.{◌≡◌, ℕ, zero, suc, ◌+◌, ◌-◌, ◌*◌, ◌/◌, ◌%◌, ◌^◌, ◌<◌, ◌≤◌, List, [], ◌∷◌, ◌++◌, length, get_or, take, drop, sym, refl, ap, ◌∙◌, pow-suc, arith, shr-shr}
+use Rattle.std.proofs.Common.{◌≡◌, ℕ, zero, suc, ◌+◌, ◌*◌, ◌/◌, ◌%◌, ◌^◌, ◌<◌, ◌≤◌, List, [], ◌∷◌, ◌++◌, length, get_or, take, drop, map, sym, refl, ap, ◌∙◌, pow-suc, arith, shr-shr}
 use native.Mathlib.Nat.{pow-zero}
-use Rattle.std.proofs.lemmas.List.{append-nil, append_assoc, take-append-drop, take-take, take_more, drop_more, drop-take, drop-drop, length-append}
+use Rattle.std.proofs.lemmas.List.{append-nil, append_assoc, take-append-drop, take-take, take_more, drop-take, drop-drop, length-append}
+use Rattle.std.proofs.lemmas.Slice.Eq.{text_from_reads}
+use Rattle.std.specs.Int.{from_le_bytes, w64}
+use Rattle.std.specs.Simd.{first_chunks}
 use Rattle.planfile.specs.File.{number, bytes, words_in, word_bytes}
 
 -- the eight bytes of a number
@@ -73,30 +76,29 @@ words_back (w ∷ ws) rest h =
     let first : number (bytes 8 w) ≡ w = number_bytes 8 w fits in
     ap (λ us. number (bytes 8 w) ∷ us) (words_back ws rest (λ i l. h (suc i) (omega arith))) ∙ ap (λ v. v ∷ ws) first
 
--- one element more of what is left
-step : (bs : List ℕ) (i j : ℕ) → i < length bs → i + 1 ≡ j → drop i bs ≡ get_or bs i 0 ∷ drop j bs
-step bs i j l e = drop_more bs i 0 l ∙ ap (λ m. get_or bs i 0 ∷ drop m bs) e
+-- eight bytes spell a number of 64 bits
+pub number_8 : (bs : List ℕ) → length bs ≡ 8 → from_le_bytes w64 bs ≡ number bs
+number_8 bs l =
+    let each : bs ≡ get_or bs 0 0 ∷ get_or bs 1 0 ∷ get_or bs 2 0 ∷ get_or bs 3 0 ∷ get_or bs 4 0 ∷ get_or bs 5 0 ∷ get_or bs 6 0 ∷ get_or bs 7 0 ∷ [] =
+    text_from_reads bs (get_or bs 0 0 ∷ get_or bs 1 0 ∷ get_or bs 2 0 ∷ get_or bs 3 0 ∷ get_or bs 4 0 ∷ get_or bs 5 0 ∷ get_or bs 6 0 ∷ get_or bs 7 0 ∷ []) l
+    (refl, (refl, (refl, (refl, (refl, (refl, (refl, (refl, tt)))))))) in
+    sym (ap number each ∙ omega arith)
 
--- the number in the 8 bytes from a place on
-pub number_at : (bs : List ℕ) (at : ℕ) → at + 8 ≤ length bs → get_or bs at 0 + get_or bs (at + 1) 0 * 256 + get_or bs (at + 2) 0 * 65536 + get_or bs (at + 3) 0 * 16777216 + get_or bs (at + 4) 0 * 4294967296 + get_or bs (at + 5) 0 * 1099511627776 + get_or bs (at + 6) 0 * 281474976710656 + get_or bs (at + 7) 0 * 72057594037927936 ≡ number (take 8 (drop at bs))
-number_at bs at l =
-    let e : drop at bs ≡ get_or bs at 0 ∷ get_or bs (at + 1) 0 ∷ get_or bs (at + 2) 0 ∷ get_or bs (at + 3) 0 ∷ get_or bs (at + 4) 0 ∷ get_or bs (at + 5) 0 ∷ get_or bs (at + 6) 0 ∷ get_or bs (at + 7) 0 ∷ drop (at + 8) bs =
-    step bs at (at + 1) (omega arith) refl
-    ∙ ap (λ us. get_or bs at 0 ∷ us) (step bs (at + 1) (at + 2) (omega arith) (omega arith)
-    ∙ ap (λ us. get_or bs (at + 1) 0 ∷ us) (step bs (at + 2) (at + 3) (omega arith) (omega arith)
-    ∙ ap (λ us. get_or bs (at + 2) 0 ∷ us) (step bs (at + 3) (at + 4) (omega arith) (omega arith)
-    ∙ ap (λ us. get_or bs (at + 3) 0 ∷ us) (step bs (at + 4) (at + 5) (omega arith) (omega arith)
-    ∙ ap (λ us. get_or bs (at + 4) 0 ∷ us) (step bs (at + 5) (at + 6) (omega arith) (omega arith)
-    ∙ ap (λ us. get_or bs (at + 5) 0 ∷ us) (step bs (at + 6) (at + 7) (omega arith) (omega arith)
-    ∙ ap (λ us. get_or bs (at + 6) 0 ∷ us) (step bs (at + 7) (at + 8) (omega arith) (omega arith)))))))) in
-    let sum : get_or bs at 0 + get_or bs (at + 1) 0 * 256 + get_or bs (at + 2) 0 * 65536 + get_or bs (at + 3) 0 * 16777216 + get_or bs (at + 4) 0 * 4294967296 + get_or bs (at + 5) 0 * 1099511627776 + get_or bs (at + 6) 0 * 281474976710656 + get_or bs (at + 7) 0 * 72057594037927936 ≡ number (get_or bs at 0 ∷ get_or bs (at + 1) 0 ∷ get_or bs (at + 2) 0 ∷ get_or bs (at + 3) 0 ∷ get_or bs (at + 4) 0 ∷ get_or bs (at + 5) 0 ∷ get_or bs (at + 6) 0 ∷ get_or bs (at + 7) 0 ∷ []) =
-    omega arith in
-    sum ∙ ap (λ us. number (take 8 us)) (sym e)
+-- the words of chunks of 8 bytes
+pub words_all : (k : ℕ) (bs : List ℕ) → map number (first_chunks 8 k bs) ≡ words_in k bs
+words_all zero bs = refl
+words_all (suc k) bs = ap (λ ws. number (take 8 bs) ∷ ws) (words_all k (drop 8 bs))
 
--- the words that are left of a row, from place i on
-pub words_left : (count i : ℕ) (bs : List ℕ) → i < count → words_in (count - i) (drop (8 * i) bs) ≡ number (take 8 (drop (8 * i) bs)) ∷ words_in (count - (i + 1)) (drop (8 * (i + 1)) bs)
-words_left count i bs l =
-    let less : count - i ≡ suc (count - (i + 1)) = omega arith in
-    let next : 8 * i + 8 ≡ 8 * (i + 1) = omega arith in
-    ap (λ m. words_in m (drop (8 * i) bs)) less
-    ∙ ap (λ us. number (take 8 (drop (8 * i) bs)) ∷ words_in (count - (i + 1)) us) (drop-drop 8 (8 * i) bs ∙ ap (λ m. drop m bs) next)
+-- those of the first of them
+pub words_front : (d k : ℕ) (bs : List ℕ) → d ≤ k → map number (take d (first_chunks 8 k bs)) ≡ words_in d bs
+words_front zero k bs l = refl
+words_front (suc d) zero bs l = absurd (omega arith)
+words_front (suc d) (suc k) bs l = ap (λ ws. number (take 8 bs) ∷ ws) (words_front d k (drop 8 bs) (omega arith))
+
+-- and those of the others
+pub words_behind : (d b k : ℕ) (bs : List ℕ) → d + b ≡ k → map number (drop d (first_chunks 8 k bs)) ≡ words_in b (drop (8 * d) bs)
+words_behind zero b k bs e = words_all k bs ∙ ap (λ m. words_in m bs) (omega arith)
+words_behind (suc d) b zero bs e = absurd (omega arith)
+words_behind (suc d) b (suc k) bs e =
+    let next : 8 + 8 * d ≡ 8 * suc d = omega arith in
+    words_behind d b k (drop 8 bs) (omega arith) ∙ ap (words_in b) (drop-drop (8 * d) 8 bs ∙ ap (λ m. drop m bs) next)

@@ -62,22 +62,3 @@ read_file A f =
     (Err Levels))
     (Err Version))
     (Err Mark))
-
--- the first checks of a file: that its head is there, the mark, the version and the levels
-abbrev pub kind_checked : Arithmetic → List ℕ → Result (Unit {0}) Refusal
-kind_checked A f =
-    cond (nat_lt (length f) 9) (Err Cut)
-    (cond (slice_index f 0 == 68 && (slice_index f 1 == 87 && slice_index f 2 == 70))
-    (cond (number (take 2 (drop 3 f)) == 1) (cond (slice_index f 5 == A.s) (Ok tt) (Err Levels)) (Err Version))
-    (Err Mark))
-
--- the further checks of a file: the factors, the counts, and the length that follows from them
-abbrev pub size_checked : Arithmetic → List ℕ → Result (Unit {0}) Refusal
-size_checked A f =
-    let n = slice_index_or f 6 0 in
-    let words = slice_index f 7 + slice_index_or f 8 0 in
-    cond (nat_le 1 n && nat_le n 32)
-    (cond (nat_le words A.limit)
-    (cond (nat_lt (length f) (9 + 8 * words)) (Err Cut) (cond (nat_lt (9 + 8 * words) (length f)) (Err Surplus) (Ok tt)))
-    (Err Limit))
-    (Err Factors)

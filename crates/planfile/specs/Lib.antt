@@ -1,2 +1,3 @@
 pub mod File
+pub mod Head
 pub mod Written

@@ -1,4 +1,5 @@
 // The plan file: read into the content of a plan, and written from it.
+// as: From has neither usize to u64 nor a narrower number.
 #![tactic(auto)]
 
 pub mod buffer;
@@ -8,3 +9,12 @@ mod writing;
 pub use buffer::Buffer;
 pub use reading::read;
 pub use writing::file;
+
+// How many bytes stand before the words of a file.
+const HEAD: usize = 9;
+
+// The mark that a file begins with.
+const MARK: [u8; 3] = *b"DWF";
+
+// The version of the file format, in two bytes behind the mark.
+const VERSION: u16 = 1;

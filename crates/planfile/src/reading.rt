@@ -1,115 +1,89 @@
 // A plan file is read.
-ghost use Rattle.std.specs.Prelude.{◌≡◌, ◌+◌, ◌*◌, ◌≤◌, length, take, drop};
+ghost use Rattle.std.specs.Prelude.{◌≡◌, map};
 ghost use Rattle.contents.specs.Content.{admitted_all};
-ghost use Rattle.planfile.specs.File.{kind_checked, number, read_file, read_words, size_checked, words_in};
 ghost use Rattle.contents.specs.Held.{content_of, ended, result_of};
+ghost use Rattle.planfile.specs.File.{number, read_file};
 
+use crate::{HEAD, MARK, VERSION};
 use contents::{PlanContent, Refusal, Side};
 use levels::Levels;
-use levels::number::Number;
+use std::cmp::Ordering;
 
-// What stands before the words of a file.
-const HEAD: usize = 9;
+// What a file says of its plan before the words: the number of factors, and how many words each list has.
+#[derive(Clone, Copy)]
+struct Head {
+    factors: u8,
+    defining: u8,
+    block: u8,
+}
+
+impl Head {
+    ghost use Rattle.std.specs.Prelude.{◌≡◌, ◌+◌};
+    ghost use Rattle.planfile.specs.Head.{head_read, size_checked};
+
+    // The head of a file: it is there, with the mark, version 1 and the levels.
+    fn read<L: Levels>(file: &[u8]) -> Result<Head, Refusal>
+        ensures { result ≡ head_read L.Levels.model file.now }
+    {
+        let [d, w, f, low, high, levels, factors, defining, block, ..] = *file else {
+            return Err(Refusal::Cut);
+        };
+        if [d, w, f] != MARK {
+            return Err(Refusal::Mark);
+        }
+        if u16::from_le_bytes([low, high]) != VERSION {
+            return Err(Refusal::Version);
+        }
+        if levels != L::LEVELS {
+            return Err(Refusal::Levels);
+        }
+        Ok(Head {
+            factors,
+            defining,
+            block,
+        })
+    }
+
+    // The words are no more than the limit, and the file has the length that follows from their number.
+    fn check_size<L: Levels>(&self, len: usize) -> Result<(), Refusal>
+        ensures { result ≡ size_checked L.Levels.model (self.now.defining + self.now.block) len }
+    {
+        let words = usize::from(self.defining) + usize::from(self.block);
+        if words > L::LIMIT {
+            return Err(Refusal::Limit);
+        }
+        match len.cmp(&(HEAD + 8 * words)) {
+            Ordering::Less => Err(Refusal::Cut),
+            Ordering::Equal => Ok(()),
+            Ordering::Greater => Err(Refusal::Surplus),
+        }
+    }
+}
 
 // The plan that a file holds, or the first check that fails.
 pub fn read<L: Levels>(file: &[u8]) -> Result<PlanContent, Refusal>
     ensures { result_of result ≡ read_file L.Levels.model file.now }
 {
-    check_kind::<L>(file)?;
-    check_size::<L>(file)?;
-    read_words::<L>(file[6], file[7] as usize, file[8] as usize, &file[HEAD..])
-}
-
-// The head of a file is there, with the mark, version 1 and the levels.
-fn check_kind<L: Levels>(file: &[u8]) -> Result<(), Refusal>
-    ensures { result ≡ kind_checked L.Levels.model file.now }
-{
-    if file.len() < HEAD {
-        return Err(Refusal::Cut);
-    }
-    if file[0] != b'D' || file[1] != b'W' || file[2] != b'F' {
-        return Err(Refusal::Mark);
-    }
-    if file[3] != 1 || file[4] != 0 {
-        return Err(Refusal::Version);
-    }
-    if file[5] != L::LEVELS.get() {
-        return Err(Refusal::Levels);
-    }
-    Ok(())
-}
-
-// The factors and the counts of a file are within their limits, and its length is what follows from the counts.
-fn check_size<L: Levels>(file: &[u8]) -> Result<(), Refusal>
-    requires { 9 ≤ length file.now }
-    ensures { result ≡ size_checked L.Levels.model file.now }
-{
-    if file[6] < 1 || 32 < file[6] {
-        return Err(Refusal::Factors);
-    }
-    let words = file[7] as usize + file[8] as usize;
-    if words > L::LIMIT.get() as usize {
-        return Err(Refusal::Limit);
-    }
-    let end = HEAD + 8 * words;
-    if file.len() < end {
-        return Err(Refusal::Cut);
-    }
-    if end < file.len() {
-        return Err(Refusal::Surplus);
-    }
-    Ok(())
-}
-
-// The words of a file whose head has passed: first those of the defining list, then those of the block list.
-fn read_words<L: Levels>(
-    n: u8,
-    defining: usize,
-    block: usize,
-    bytes: &[u8],
-) -> Result<PlanContent, Refusal>
-    requires low { 1 ≤ n }
-    requires high { n ≤ 32 }
-    requires long { 8 * (defining + block) ≤ length bytes.now }
-    ensures { result_of result ≡ read_words L.Levels.model n defining block bytes.now }
-{
-    let Ok(mut held) = PlanContent::started(n) else {
-        unreachable()
-    };
-    admit_words::<L>(&mut held, Side::Defining, defining, bytes)?;
-    admit_words::<L>(&mut held, Side::Block, block, &bytes[8 * defining..])?;
+    let head = Head::read::<L>(file)?;
+    let mut held = PlanContent::started(head.factors)?;
+    head.check_size::<L>(file.len())?;
+    let (words, _) = file[HEAD..].as_chunks::<8>();
+    let (defining, block) = words.split_at(usize::from(head.defining));
+    admit_words::<L>(&mut held, Side::Defining, defining)?;
+    admit_words::<L>(&mut held, Side::Block, block)?;
     Ok(held)
 }
 
-// So many words in a row of bytes are admitted to one list, until one is refused.
+// The words of a file are admitted to one list, until one is refused.
 fn admit_words<L: Levels>(
     held: &mut PlanContent,
     side: Side,
-    count: usize,
-    bytes: &[u8],
+    words: &[[u8; 8]],
 ) -> Result<(), Refusal>
-    requires { 8 * count ≤ length bytes.now }
-    ensures { ended result (content_of held.new) ≡ admitted_all L.Levels.model side (words_in count bytes.now) (content_of held.old) }
+    ensures { ended result (content_of held.new) ≡ admitted_all L.Levels.model side (map number words.now) (content_of held.old) }
 {
-    for i in 0..count {
-        held.admit::<L>(side, word_at(bytes, 8 * i))?;
+    for word in words {
+        held.admit::<L>(side, u64::from_le_bytes(*word))?;
     }
     Ok(())
-}
-
-// The word in the 8 bytes from a place on.
-fn word_at(bytes: &[u8], at: usize) -> u64
-    requires { at + 8 ≤ length bytes.now }
-    ensures { result ≡ number (take 8 (drop at bytes.now)) }
-{
-    u64::from_le_bytes([
-        bytes[at],
-        bytes[at + 1],
-        bytes[at + 2],
-        bytes[at + 3],
-        bytes[at + 4],
-        bytes[at + 5],
-        bytes[at + 6],
-        bytes[at + 7],
-    ])
 }

@@ -1,32 +1,66 @@
--- The checks in their order, and then the words.
-use Rattle.std.proofs.Common.{get_or, Err, sym, ap, ◌∙◌}
+-- The words of the defining list are admitted, and then those of the block list.
+use Rattle.std.proofs.Common.{◌≡◌, ◌-◌, take, drop, map, length, Ok, Err, sym, ap, ◌∙◌}
 use Rattle.std.proofs.lemmas.List.{take_rest}
 use Rattle.std.proofs.lemmas.Result.{err_from_is_err_and}
-use Rattle.planfile.specs.File.{read_words}
-use Rattle.contents.specs.Held.{result_of}
-use Rattle.planfile.proofs.Files.{read_other_kind, read_other_size, read_checked}
+use Rattle.contents.specs.declared.side.Side.TheVariants.{Defining, Block}
+use Rattle.contents.specs.Content.{admitted_all}
+use Rattle.contents.specs.Held.{content_of, ended, result_of}
+use Rattle.contents.proofs.Outcomes.{and_then}
+use Rattle.planfile.specs.File.{number}
+use Rattle.planfile.proofs.Files.{read_chunks}
 use Rattle.planfile.proofs.reading.read.Goals as goal
 
-pub returns-in_err-check_kind : goal.returns-in_err-check_kind
-returns-in_err-check_kind g c =
-    let x = err_from_is_err_and c.from_residual.result c.from_residual.ensures.1 in
-    let e = c.in_err-check_kind.field-0.0 in
+-- a word of the defining list is refused
+pub returns-in_err-admit_words : goal.returns-in_err-admit_words
+returns-in_err-admit_words g c =
+    let A = g.L.Levels.model in
+    let f = c.args.file.now in
+    let h = c.in_ok-head.head in
+    let p = content_of c.in_ok-held.held in
+    let chunks = c.as_chunks.result.0.now in
+    let x = err_from_is_err_and c.from_residual-in_err-admit_words.result c.from_residual-in_err-admit_words.ensures.1 in
+    let first : admitted_all A Defining (map number (take h.defining chunks)) p ≡ Err c.in_err-admit_words.field-0.0 =
+    ap (λ us. admitted_all A Defining (map number us) p) (sym (c.split_at.ensures.front ∙ ap (λ n. take n chunks) c.from.ensures)) ∙ sym c.admit_words.ensures
+    ∙ ap (λ v. ended v (content_of c.admit_words.new.held)) c.in_err-admit_words.was in
     ap result_of (x.1 ∙ ap Err x.2)
-    ∙ sym (read_other_kind g.L.Levels.model c.args.file.now e (sym c.check_kind.ensures ∙ c.in_err-check_kind.was))
+    ∙ sym (read_chunks A f (take (length f - 9) (drop 9 f)) chunks h p (take_rest f 9) c.as_chunks.ensures.front
+    (sym c.read.ensures ∙ c.in_ok-head.was) (sym c.started.ensures ∙ ap result_of c.in_ok-held.was) (sym c.check_size.ensures ∙ c.in_ok-check_size.was)
+    ∙ ap (λ r. and_then r (admitted_all A Block (map number (drop h.defining chunks)))) first)
 
-pub returns-in_err-check_size : goal.returns-in_err-check_size
-returns-in_err-check_size g c =
-    let x = err_from_is_err_and c.from_residual-in_err-check_size.result c.from_residual-in_err-check_size.ensures.1 in
-    let e = c.in_err-check_size.field-0.0 in
+-- a word of the block list is refused
+pub returns-in_err-admit_words-2 : goal.returns-in_err-admit_words-2
+returns-in_err-admit_words-2 g c =
+    let A = g.L.Levels.model in
+    let f = c.args.file.now in
+    let h = c.in_ok-head.head in
+    let p = content_of c.in_ok-held.held in
+    let q = content_of c.admit_words.new.held in
+    let chunks = c.as_chunks.result.0.now in
+    let x = err_from_is_err_and c.from_residual-in_err-admit_words-2.result c.from_residual-in_err-admit_words-2.ensures.1 in
+    let first : admitted_all A Defining (map number (take h.defining chunks)) p ≡ Ok q =
+    ap (λ us. admitted_all A Defining (map number us) p) (sym (c.split_at.ensures.front ∙ ap (λ n. take n chunks) c.from.ensures)) ∙ sym c.admit_words.ensures ∙ ap (λ v. ended v q) c.in_ok-admit_words.was in
+    let others : admitted_all A Block (map number (drop h.defining chunks)) q ≡ Err c.in_err-admit_words-2.field-0.0 =
+    ap (λ us. admitted_all A Block (map number us) q) (sym (c.split_at.ensures.back ∙ ap (λ n. drop n chunks) c.from.ensures)) ∙ sym c.admit_words-2.ensures
+    ∙ ap (λ v. ended v (content_of c.admit_words-2.new.held)) c.in_err-admit_words-2.was in
     ap result_of (x.1 ∙ ap Err x.2)
-    ∙ sym (read_other_size g.L.Levels.model c.args.file.now e
-    (sym c.check_kind.ensures ∙ c.in_ok-check_kind.was)
-    (sym c.check_size.ensures ∙ c.in_err-check_size.was))
+    ∙ sym (read_chunks A f (take (length f - 9) (drop 9 f)) chunks h p (take_rest f 9) c.as_chunks.ensures.front
+    (sym c.read.ensures ∙ c.in_ok-head.was) (sym c.started.ensures ∙ ap result_of c.in_ok-held.was) (sym c.check_size.ensures ∙ c.in_ok-check_size.was)
+    ∙ ap (λ r. and_then r (admitted_all A Block (map number (drop h.defining chunks)))) first ∙ others)
 
+-- all words are admitted
 pub returns : goal.returns
 returns g c =
+    let A = g.L.Levels.model in
     let f = c.args.file.now in
-    c.read_words.ensures ∙ ap (λ zs. read_words g.L.Levels.model (get_or f 6 0) (get_or f 7 0) (get_or f 8 0) zs) (take_rest f 9)
-    ∙ sym (read_checked g.L.Levels.model c.args.file.now
-    (sym c.check_kind.ensures ∙ c.in_ok-check_kind.was)
-    (sym c.check_size.ensures ∙ c.in_ok-check_size.was))
+    let h = c.in_ok-head.head in
+    let p = content_of c.in_ok-held.held in
+    let q = content_of c.admit_words.new.held in
+    let chunks = c.as_chunks.result.0.now in
+    let first : admitted_all A Defining (map number (take h.defining chunks)) p ≡ Ok q =
+    ap (λ us. admitted_all A Defining (map number us) p) (sym (c.split_at.ensures.front ∙ ap (λ n. take n chunks) c.from.ensures)) ∙ sym c.admit_words.ensures ∙ ap (λ v. ended v q) c.in_ok-admit_words.was in
+    let others : admitted_all A Block (map number (drop h.defining chunks)) q ≡ Ok (content_of c.admit_words-2.new.held) =
+    ap (λ us. admitted_all A Block (map number us) q) (sym (c.split_at.ensures.back ∙ ap (λ n. drop n chunks) c.from.ensures)) ∙ sym c.admit_words-2.ensures
+    ∙ ap (λ v. ended v (content_of c.admit_words-2.new.held)) c.in_ok-admit_words-2.was in
+    sym (read_chunks A f (take (length f - 9) (drop 9 f)) chunks h p (take_rest f 9) c.as_chunks.ensures.front
+    (sym c.read.ensures ∙ c.in_ok-head.was) (sym c.started.ensures ∙ ap result_of c.in_ok-held.was) (sym c.check_size.ensures ∙ c.in_ok-check_size.was)
+    ∙ ap (λ r. and_then r (admitted_all A Block (map number (drop h.defining chunks)))) first ∙ others)

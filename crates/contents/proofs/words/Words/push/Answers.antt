@@ -1,17 +1,15 @@
 -- One word more stands behind those before it, and is not 0.
-use Rattle.std.proofs.Common.{◌<◌, length, arith}
-use Rattle.std.proofs.lemmas.List.{length-take, take_more_set}
-use Rattle.contents.proofs.Tables.{positive_more}
+use Rattle.std.proofs.Common.{◌≡◌, ℕ, ◌+◌, ◌<◌, [], ◌∷◌, ◌++◌, length, get_or, ap, ◌∙◌, arith, below_more}
+use Rattle.std.proofs.lemmas.List.{length_push, take_all, get_or_append_left, get_or_push}
+use Rattle.bounded.specs.Items.{items_of}
+use Rattle.contents.specs.List.{listed}
 use Rattle.contents.proofs.words.Words.push.Goals as goal
 
 pub invariant_of-self : goal.invariant_of-self
 invariant_of-self c =
-    let room : c.args.self.now.len < 16 = omega (arith, c.requires.room, length-take c.args.self.now.len c.args.self.now.words) in
-    let within : c.args.self.now.len < length c.args.self.now.words = omega arith in
-    record { few = omega arith; nonzero = positive_more c.args.self.now.words c.args.self.now.len c.args.word within c.requires.nonzero c.args.self.now.nonzero }
-
-pub returns : goal.returns
-returns c =
-    let within : c.args.self.now.len < length c.args.self.now.words =
-    omega (arith, c.requires.room, length-take c.args.self.now.len c.args.self.now.words) in
-    take_more_set c.args.self.now.words c.args.self.now.len c.args.word within
+    let ws = listed c.args.self.now in
+    let w = c.args.word in
+    let more : items_of c.push.new.self ≡ ws ++ w ∷ [] = c.push.ensures ∙ take_all 16 (ws ++ w ∷ []) (omega (arith, c.requires.room, length_push ws w)) in
+    let each : (i : ℕ) → i < length ws + 1 → 0 < get_or (ws ++ w ∷ []) i 0 =
+    below_more _ _ (λ i h. rw get_or_append_left (c.args.self.now.nonzero i h)) (rw get_or_push c.requires.nonzero) in
+    record { nonzero = λ i h. rw more (each i (omega (arith, h, ap length more, length_push ws w))) }

@@ -1,13 +1,11 @@
--- The bytes stand behind those before them.
-use Rattle.std.proofs.Common.{◌+◌, ◌-◌, ◌++◌, length, sym, ap, ◌∙◌, arith}
-use Rattle.std.proofs.lemmas.Slice.{take-put_mid}
+-- There is room for all bytes.
+use Rattle.std.proofs.Common.{◌++◌, ◌∙◌, arith}
+use Rattle.std.proofs.lemmas.List.{length-append, take_all}
 use Rattle.planfile.specs.Written.{written}
 use Rattle.planfile.proofs.buffer.Buffer.extend.Goals as goal
 
 pub returns : goal.returns
 returns c =
-    let b = c.args.self.now in
-    let ys = c.copy_from_slice.new.self in
-    take-put_mid b.len (b.len + length c.args.more.now - b.len) b.bytes ys (b.len + length c.args.more.now)
-    (ap (λ zs. b.len + length zs) (sym c.copy_from_slice.ensures.after)) (omega arith)
-    ∙ ap (λ zs. written b ++ zs) c.copy_from_slice.ensures.after
+    let before = written c.args.self.now in
+    let more = c.args.more.now in
+    c.extend.ensures ∙ take_all 137 (before ++ more) (omega (arith, c.requires, length-append before more))
