@@ -3,6 +3,7 @@ use Rattle.std.proofs.Common.{◌≡◌, ℕ, zero, suc, ◌+◌, ◌-◌, ◌*�
 use native.Mathlib.Nat.{pow-le-pow_left, pow-le-pow_right}
 use Rattle.std.proofs.lemmas.Nat.{mod_below, pow_pos}
 use Rattle.std.proofs.lemmas.Fmt.{length-decimal-le}
+use Rattle.std.proofs.lemmas.List.Sums.{sum_by-cons}
 use Rattle.std.proofs.lemmas.List.{length-append}
 use Rattle.std.proofs.lemmas.Bool.{cond_both, cond-false, cases_Bool, cases_lt, eqb-true, eqb-false}
 use Rattle.levels.specs.Arithmetic.{Arithmetic, Lawful, two}
@@ -26,7 +27,7 @@ use Rattle.page.specs.Parts.{clear_line, generators_line, head_line, pattern_lin
 use Rattle.page.proofs.Lines.{length_line, mark}
 
 -- the page has the length of its lines
-pub page_length : (A : Arithmetic) (p : Content) → length (page A p) ≡ length (head_line A p) + length (resolution_line A p) + length (pattern_line A p) + length (generators_line A (codes "defining") (shortest A) Defining p) + length (generators_line A (codes "blocks") (least_aberration A) Block p) + length (clear_line A p)
+page_length : (A : Arithmetic) (p : Content) → length (page A p) ≡ length (head_line A p) + length (resolution_line A p) + length (pattern_line A p) + length (generators_line A (codes "defining") (shortest A) Defining p) + length (generators_line A (codes "blocks") (least_aberration A) Block p) + length (clear_line A p)
 page_length A p =
     let one = head_line A p in
     let two = resolution_line A p in
@@ -47,7 +48,7 @@ pub bits_few : (A : Arithmetic) → Lawful A → A.bits ≤ 2
 bits_few A L = subst (λ (b : ℕ). b ≤ 2) (sym L.width) (cond_both (eqb A.s 2) 1 2 (λ b. b ≤ 2) (λ e. omega arith) (λ e. omega arith))
 
 -- so there are at most 4 levels
-pub levels_few : (A : Arithmetic) → Lawful A → A.s ≤ 4
+levels_few : (A : Arithmetic) → Lawful A → A.s ≤ 4
 levels_few A L = le_trans L.fits (pow-le-pow_right {n = 2} (omega arith) (bits_few A L))
 
 -- a number of one digit
@@ -80,19 +81,19 @@ word_most A k most (suc n) i w =
     )
 
 -- 64 bytes for up to 32 factors, and 32 of them with two levels
-pub shown_most : (A : Arithmetic) → Lawful A → (n : ℕ) → n ≤ 32 → (w : ℕ) → length (shown A n w) ≤ 64
+shown_most : (A : Arithmetic) → Lawful A → (n : ℕ) → n ≤ 32 → (w : ℕ) → length (shown A n w) ≤ 64
 shown_most A L n h w =
     let four = pow-le-pow_right {n = 2} (omega arith) (bits_few A L) in
     omega (arith, word_most A 2 (λ i d l. mark_two i d (omega arith)) n 0 w)
 
-pub shown_two : (A : Arithmetic) → Lawful A → A.s ≡ 2 → (n : ℕ) → n ≤ 32 → (w : ℕ) → length (shown A n w) ≤ 32
+shown_two : (A : Arithmetic) → Lawful A → A.s ≡ 2 → (n : ℕ) → n ≤ 32 → (w : ℕ) → length (shown A n w) ≤ 32
 shown_two A L e n h w =
     let one : A.bits ≡ 1 = L.width ∙ ap (λ s. cond (eqb s 2) 1 2) e in
     let below : (d : ℕ) → d < 2 ^ A.bits → d < 2 = λ d. subst (λ (b : ℕ). d < 2 ^ b → d < 2) (sym one) (λ l. l) in
     omega (arith, word_most A 1 (λ i d l. mark_one i d (below d l)) n 0 w)
 
 -- fields that take at most m bytes each
-pub fields_most : (show : ℕ → List ℕ) (m : ℕ) → ((x : ℕ) → length (show x) ≤ m) → (xs : List ℕ) → length (fields show xs) ≤ suc m * length xs
+fields_most : (show : ℕ → List ℕ) (m : ℕ) → ((x : ℕ) → length (show x) ≤ m) → (xs : List ℕ) → length (fields show xs) ≤ suc m * length xs
 fields_most show m most [] = omega arith
 fields_most show m most (x ∷ xs) =
     omega (arith, length-append (32 ∷ show x) (fields show xs), most x, fields_most show m most xs, mul-suc (suc m) (length xs))
@@ -165,7 +166,9 @@ ones_most : (n : ℕ) (ws ps : List ℕ) → ones_in (map (clear_byte n ws) ps) 
 ones_most n ws [] = omega arith
 ones_most n ws (p ∷ ps) =
     let more = ones_most n ws ps in
-    cond_both (crowded p (alias_set two n ws p)) 0 1 (λ b. b + ones_in (map (clear_byte n ws) ps) ≤ suc (length ps)) (λ e. omega arith) (λ e. omega arith)
+    let rest : List ℕ = map (clear_byte n ws) ps in
+    rw (sum_by-cons (λ b. b) (clear_byte n ws p) rest)
+    (cond_both (crowded p (alias_set two n ws p)) 0 1 (λ b. b + ones_in rest ≤ suc (length ps)) (λ e. omega arith) (λ e. omega arith))
 
 -- the pairs of one factor with k others
 pairs_with_most : (k i j : ℕ) → length (pairs_with i j k) ≤ k

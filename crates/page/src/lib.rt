@@ -1,9 +1,9 @@
 // The trial page of a settled plan.
+// as: From has neither usize to u64 nor a narrower number.
 #![tactic(auto)]
 
 ghost use Rattle.std.specs.Prelude.{◌≡◌, ◌≤◌, length};
 ghost use Rattle.contents.specs.Content.{Kept};
-ghost use Rattle.contents.specs.Held.{content_of};
 ghost use Rattle.contents.specs.Memory.{holding, wrote};
 ghost use Rattle.page.specs.Page.{page as page_of};
 
@@ -14,14 +14,13 @@ use printing::printed;
 
 mod printing;
 mod sheet;
-mod writer;
 
 // The trial page is written at the start of the memory that is lent, and its length is answered. The page of a plan
 // that is kept has at most 1,024 bytes.
 pub fn page<L: Levels>(plan: &SettledPlan<L>, memory: &mut [u8]) -> Result<usize, Refusal>
-    ensures stored { memory.new ≡ holding (page_of L.Levels.model (content_of plan.now.held)) memory.old }
-    ensures count { result ≡ wrote (page_of L.Levels.model (content_of plan.now.held)) memory.old }
-    ensures short { Kept L.Levels.model (content_of plan.now.held) → length (page_of L.Levels.model (content_of plan.now.held)) ≤ 1024 }
+    ensures stored { memory.new ≡ holding (page_of L.Levels.model plan.now) memory.old }
+    ensures count { result ≡ wrote (page_of L.Levels.model plan.now) memory.old }
+    ensures short { Kept L.Levels.model plan.now → length (page_of L.Levels.model plan.now) ≤ 1024 }
 {
     store(printed::<L>(plan).as_slice(), memory)
 }

@@ -1,5 +1,5 @@
 -- The answers about runs and blocks, from what is read off lists of words.
-use Rattle.std.proofs.Common.{◌≡◌, ℕ, zero, suc, ◌^◌, ◌<◌, ◌≤◌, true, ltb, leb, List, [], ◌∷◌, length, get_or, Ok, Err, sym, ap, ◌∙◌, subst, one-mul, arith}
+use Rattle.std.proofs.Common.{◌≡◌, ℕ, zero, suc, ◌^◌, ◌<◌, ◌≤◌, true, ltb, leb, List, [], ◌∷◌, length, get_or, Option, Some, None, MatchOption, ok_or, Ok, Err, sym, ap, ◌∙◌, subst, one-mul, arith}
 use Rattle.std.proofs.lemmas.Bool.{and_parts, le-leb, lt-ltb, le-ltb, cond-true, cond-false}
 use Rattle.levels.specs.Arithmetic.{Arithmetic, two}
 use Rattle.levels.specs.Words.{legal}
@@ -24,16 +24,17 @@ entry_past xs m l = sym (cond-false (ltb m (length xs)) (Ok (get_or xs m 0)) (Er
 run_below : (n : ℕ) (ws : List ℕ) (m x : ℕ) → Run n ws m x → x < 2 ^ n
 run_below n ws m x run = subst (λ k. x < 2 ^ k) (one-mul n) (word_legal two n x (and_parts _ _ run.runs).0).below
 
-pub run_found : (n k : ℕ) (ws vs : List ℕ) (m x : ℕ) → k ≡ n → vs ≡ ws → Run k (generated two k vs) m x → Ok x ≡ entry (runs_upto n (generated two n ws) (2 ^ n)) m
-run_found n k ws vs m x f e run =
-    let r : Run n (generated two n ws) m x = subst (λ l. Run n (generated two n l) m x) e (subst (λ j. Run j (generated two j vs) m x) f run) in
-    let at = run_entry n (generated two n ws) (2 ^ n) m x (run_below n (generated two n ws) m x r) r in
+-- run m, or a refusal past the last
+run_is : (n : ℕ) (ws : List ℕ) (m : ℕ) (o : Option ℕ) → MatchOption o (runs_below n (generated two n ws) (2 ^ n) ≤ m) (λ x. Run n (generated two n ws) m x) → ok_or o Last ≡ entry (runs_upto n (generated two n ws) (2 ^ n)) m
+run_is n ws m None past =
+    entry_past (runs_upto n (generated two n ws) (2 ^ n)) m (subst (λ z. z ≤ m) (sym (upto_length n (generated two n ws) (2 ^ n))) past)
+run_is n ws m (Some x) run =
+    let at = run_entry n (generated two n ws) (2 ^ n) m x (run_below n (generated two n ws) m x run) run in
     entry_at (runs_upto n (generated two n ws) (2 ^ n)) m x at.0 at.1
 
-pub run_past : (n k : ℕ) (ws vs : List ℕ) (m : ℕ) → k ≡ n → vs ≡ ws → runs_below k (generated two k vs) (2 ^ k) ≤ m → Err Last ≡ entry (runs_upto n (generated two n ws) (2 ^ n)) m
-run_past n k ws vs m f e l =
-    let past : runs_below n (generated two n ws) (2 ^ n) ≤ m = subst (λ z. runs_below n (generated two n z) (2 ^ n) ≤ m) e (subst (λ j. runs_below j (generated two j vs) (2 ^ j) ≤ m) f l) in
-    entry_past (runs_upto n (generated two n ws) (2 ^ n)) m (subst (λ z. z ≤ m) (sym (upto_length n (generated two n ws) (2 ^ n))) past)
+-- the same of factors and words that were read off the plan
+pub run_answer : (n k : ℕ) (ws vs : List ℕ) (m : ℕ) (o : Option ℕ) → k ≡ n → vs ≡ ws → MatchOption o (runs_below k (generated two k vs) (2 ^ k) ≤ m) (λ x. Run k (generated two k vs) m x) → ok_or o Last ≡ entry (runs_upto n (generated two n ws) (2 ^ n)) m
+run_answer n k ws vs m o f e found = run_is n ws m o (rw (← f, ← e) found)
 
 -- a list that passes the test has words at all its places
 pub all_words : (A : Arithmetic) (n : ℕ) (ws : List ℕ) → all_legal A n ws ≡ true → AllWords A n ws

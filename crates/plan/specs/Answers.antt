@@ -12,7 +12,7 @@ use Rattle.contents.specs.declared.refusal.Refusal.{Refusal}
 use Rattle.contents.specs.declared.refusal.Refusal.TheVariants.{Illegal, Limit, Last, Memory}
 use Rattle.contents.specs.declared.side.Side.{Side}
 use Rattle.contents.specs.declared.side.Side.TheVariants.{Defining, Block}
-use Rattle.contents.specs.Content.{Content}
+use Rattle.contents.specs.Content.{Content, side_of}
 
 -- the words that the defining words generate
 abbrev pub defined : Arithmetic → Content → List ℕ
@@ -25,8 +25,7 @@ base_of Block p = p.defining
 
 -- the generators of a side, best first: beyond its base list, of what the base list and the side's words generate
 abbrev pub chosen : Arithmetic → Relation → Side → Content → List ℕ
-chosen A good Defining p = generators A good p.factors [] p.defining
-chosen A good Block p = generators A good p.factors p.defining p.block
+chosen A good side p = generators A good p.factors (base_of side p) (side_of side p)
 
 -- the scores of the generators of a side
 abbrev pub chosen_scores : Arithmetic → Relation → (ℕ → ℕ → ℕ) → Side → Content → List ℕ

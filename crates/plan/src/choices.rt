@@ -1,46 +1,47 @@
 // The generators that a settled plan is asked for.
 ghost use Rattle.std.specs.Prelude.{◌≡◌, ◌≤◌, map, length, take, if◌then◌else◌, Ok, Err};
+ghost use Rattle.bounded.specs.Items.{items_of};
 ghost use Rattle.choice.specs.Choice.{BestGenerators};
 ghost use Rattle.choice.specs.Chosen.{chosen_words};
 ghost use Rattle.contents.specs.declared.refusal.Refusal.TheVariants.{Memory};
 ghost use Rattle.contents.specs.Content.{side_of};
 ghost use Rattle.plan.specs.Answers.{base_of, chosen, chosen_scores};
-ghost use Rattle.contents.specs.Held.{content_of};
 ghost use Rattle.contents.specs.Memory.{both_fit, holding, holding_if, wrote};
 
 use crate::settled::SettledPlan;
+use bounded::Bounded;
 use choice::{Chosen, MOST};
 use contents::{Refusal, Side, store};
 use levels::Levels;
 use preferences::{Preference, Scored};
 
 impl<L: Levels> SettledPlan<L> {
-    // Writes the best generators of a side into memory, and tells how many there are.
+    // Writes the best generators of a side into memory, and tells how many there are: at most 16.
     pub fn choose<P: Preference<L>>(
         &self,
         side: Side,
         preference: &P,
         memory: &mut [u64],
     ) -> Result<usize, Refusal>
-        ensures stored { memory.new ≡ holding (chosen L.Levels.model (P.Preference.good preference.now) side (content_of self.now.held)) memory.old }
-        ensures count { result ≡ wrote (chosen L.Levels.model (P.Preference.good preference.now) side (content_of self.now.held)) memory.old }
-        ensures no_rival_is_better { BestGenerators L.Levels.model (P.Preference.good preference.now) (content_of self.now.held).factors (base_of side (content_of self.now.held)) (side_of side (content_of self.now.held)) (chosen L.Levels.model (P.Preference.good preference.now) side (content_of self.now.held)) }
+        ensures stored { memory.new ≡ holding (chosen L.Levels.model (P.Preference.good preference.now) side self.now) memory.old }
+        ensures count { result ≡ wrote (chosen L.Levels.model (P.Preference.good preference.now) side self.now) memory.old }
+        ensures few { length (chosen L.Levels.model (P.Preference.good preference.now) side self.now) ≤ 16 }
+        ensures no_rival_is_better { BestGenerators L.Levels.model (P.Preference.good preference.now) self.now.factors (base_of side self.now) (side_of side self.now) (chosen L.Levels.model (P.Preference.good preference.now) side self.now) }
     {
         store(self.generators(side, preference).words(), memory)
     }
 
     // The best generators of a side.
     fn generators<P: Preference<L>>(&self, side: Side, preference: &P) -> Chosen
-        ensures { chosen_words result ≡ chosen L.Levels.model (P.Preference.good preference.now) side (content_of self.now.held) }
+        ensures words { chosen_words result ≡ chosen L.Levels.model (P.Preference.good preference.now) side self.now }
+        ensures few { length (chosen L.Levels.model (P.Preference.good preference.now) side self.now) ≤ 16 }
     {
-        let n = self.factors();
-        let defining = self.list(Side::Defining);
-        match side {
-            Side::Defining => choice::choose::<L, P>(preference, n, &[], defining),
-            Side::Block => {
-                choice::choose::<L, P>(preference, n, defining, self.list(Side::Block))
-            }
-        }
+        // The defining side has no base list.
+        let base = match side {
+            Side::Defining => &[],
+            Side::Block => self.list(Side::Defining),
+        };
+        choice::choose::<L, P>(preference, self.factors(), base, self.list(side))
     }
 
     // Writes the best generators of a side, and their scores, and tells how many there are. Nothing is written if
@@ -52,9 +53,9 @@ impl<L: Levels> SettledPlan<L> {
         words: &mut [u64],
         scores: &mut [u32],
     ) -> Result<usize, Refusal>
-        ensures words { words.new ≡ holding_if (both_fit (length (chosen L.Levels.model (P.Preference.good preference.now) side (content_of self.now.held))) words.old scores.old) (chosen L.Levels.model (P.Preference.good preference.now) side (content_of self.now.held)) words.old }
-        ensures scores { scores.new ≡ holding_if (both_fit (length (chosen L.Levels.model (P.Preference.good preference.now) side (content_of self.now.held))) words.old scores.old) (chosen_scores L.Levels.model (P.Preference.good preference.now) (P.Scored.points preference.now) side (content_of self.now.held)) scores.old }
-        ensures count { result ≡ (if both_fit (length (chosen L.Levels.model (P.Preference.good preference.now) side (content_of self.now.held))) words.old scores.old then Ok (length (chosen L.Levels.model (P.Preference.good preference.now) side (content_of self.now.held))) else Err Memory) }
+        ensures words { words.new ≡ holding_if (both_fit (length (chosen L.Levels.model (P.Preference.good preference.now) side self.now)) words.old scores.old) (chosen L.Levels.model (P.Preference.good preference.now) side self.now) words.old }
+        ensures scores { scores.new ≡ holding_if (both_fit (length (chosen L.Levels.model (P.Preference.good preference.now) side self.now)) words.old scores.old) (chosen_scores L.Levels.model (P.Preference.good preference.now) (P.Scored.points preference.now) side self.now) scores.old }
+        ensures count { result ≡ (if both_fit (length (chosen L.Levels.model (P.Preference.good preference.now) side self.now)) words.old scores.old then Ok (length (chosen L.Levels.model (P.Preference.good preference.now) side self.now)) else Err Memory) }
     {
         let chosen = self.generators(side, preference);
         let answer = chosen.words();
@@ -63,20 +64,20 @@ impl<L: Levels> SettledPlan<L> {
             return Err(Refusal::Memory);
         }
         let all = scores_of::<L, P>(preference, self.factors(), answer);
-        words[0..len].copy_from_slice(answer);
-        scores[0..len].copy_from_slice(&all[0..len]);
+        words[..len].copy_from_slice(answer);
+        scores[..len].copy_from_slice(all.as_slice());
         Ok(len)
     }
 }
 
 // The scores of at most 16 words.
-fn scores_of<L: Levels, P: Scored<L>>(preference: &P, n: u8, words: &[u64]) -> [u32; MOST]
+fn scores_of<L: Levels, P: Scored<L>>(preference: &P, n: u8, words: &[u64]) -> Bounded<u32, MOST>
     requires { length words.now ≤ 16 }
-    ensures { take (length words.now) result ≡ map (P.Scored.points preference.now n) words.now }
+    ensures { items_of result ≡ map (P.Scored.points preference.now n) words.now }
 {
-    let mut scores = [0; MOST];
-    for i in 0..words.len() {
-        scores[i] = preference.score(n, words[i]);
+    let mut scores = Bounded::new(0);
+    for word in words {
+        scores.push(preference.score(n, *word));
     }
     scores
 }

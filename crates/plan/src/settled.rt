@@ -1,10 +1,86 @@
-// A plan once it is settled: it answers, and does not change.
-use contents::PlanContent;
-use levels::Levels;
-use std::marker::PhantomData;
+// A plan once it is settled: it tells what it holds, and does not change.
+ghost use Rattle.std.specs.Prelude.{◌≡◌, ◌+◌, ◌≤◌, length, Ok};
+ghost use Rattle.contents.specs.Content.{Kept, side_of, word_at};
+ghost use Rattle.planfile.specs.File.{file_of, read_file};
+ghost use Rattle.contents.specs.Memory.{holding, wrote};
 
+use crate::open::OpenPlan;
+use contents::{PlanContent, Refusal, Side, store};
+use levels::Levels;
+use std::marker::{Model, PhantomData};
+
+// It has the fields of an open plan, and a type of its own: only a settled plan answers, and only an open one changes.
 #[derive(Drop)]
 pub struct SettledPlan<L: Levels> {
     pub(crate) levels: PhantomData<L>,
     pub(crate) held: PlanContent,
+}
+
+// A clause sees what the plan holds: its factors and its two lists of words. This value carries no fact, so each question
+// promises the range of its own answer.
+impl<L: Levels> Model for SettledPlan<L> {
+    ghost use Rattle.contents.specs.Content.{Content};
+    ghost use Rattle.contents.specs.Held.{content_of};
+
+    ghost Value = { Content };
+
+    ghost view = { λ p. content_of p.held };
+}
+
+impl<L: Levels> SettledPlan<L> {
+    // The plan is open to changes again.
+    pub fn reopen(self) -> OpenPlan<L>
+        ensures { result ≡ self }
+    {
+        OpenPlan {
+            levels: PhantomData,
+            held: self.held,
+        }
+    }
+
+    // The number of factors, from 1 to 32.
+    pub fn factors(&self) -> u8
+        ensures value { result ≡ self.now.factors }
+        ensures low { 1 ≤ result }
+        ensures high { result ≤ 32 }
+    {
+        self.held.factors()
+    }
+
+    // The words of one list, at most 16.
+    pub fn list(&self, side: Side) -> &[u64]
+        ensures words { result.now ≡ side_of side self.now }
+        ensures few { length result.now ≤ 16 }
+    {
+        self.held.list(side).as_slice()
+    }
+
+    // How many words each list has, the defining one first: at most 16 in all.
+    pub fn counts(&self) -> (usize, usize)
+        ensures defining { result.0 ≡ length self.now.defining }
+        ensures block { result.1 ≡ length self.now.block }
+        ensures few { result.0 + result.1 ≤ 16 }
+    {
+        (
+            self.held.list(Side::Defining).len(),
+            self.held.list(Side::Block).len(),
+        )
+    }
+
+    // The word at a place of one list, from 1.
+    pub fn word(&self, side: Side, place: usize) -> Result<u64, Refusal>
+        ensures { result ≡ word_at side place self.now }
+    {
+        self.held.word(side, place)
+    }
+
+    // The file of the plan is written at the start of the memory that is lent, and its length is answered. A plan that
+    // is kept is read back from its file.
+    pub fn write(&self, memory: &mut [u8]) -> Result<usize, Refusal>
+        ensures stored { memory.new ≡ holding (file_of L.Levels.model self.now) memory.old }
+        ensures count { result ≡ wrote (file_of L.Levels.model self.now) memory.old }
+        ensures again { Kept L.Levels.model self.now → read_file L.Levels.model (file_of L.Levels.model self.now) ≡ Ok self.now }
+    {
+        store(planfile::file::<L>(&self.held).as_slice(), memory)
+    }
 }

@@ -1,5 +1,5 @@
 -- What is written and the digits that are left make the word.
-use Rattle.std.proofs.Common.{◌≡◌, ◌-◌, ◌++◌}
+use Rattle.std.proofs.Common.{◌≡◌, ◌-◌, ◌++◌, take}
 use Rattle.levels.specs.Words.{digits}
 use Rattle.page.specs.Page.{letters, shown}
 use Rattle.page.specs.Written.{written}
@@ -7,5 +7,5 @@ use Rattle.page.proofs.sheet.Sheet.word.Given as goal
 
 abbrev pub invariant-loop-i : goal.invariant-loop-i
 invariant-loop-i g l =
-    written l.self ++ letters l.i (digits g.L.Levels.model (l.n - l.i) l.rest)
-    ≡ written l.initial.self ++ shown g.L.Levels.model l.n l.code
+    take 2048 (written l.self ++ letters l.i (digits g.L.Levels.model (l.plan.factors - l.i) l.rest))
+    ≡ take 2048 (written l.initial.self ++ shown g.L.Levels.model l.plan.factors l.code)

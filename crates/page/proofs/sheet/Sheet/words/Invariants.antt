@@ -1,10 +1,10 @@
 -- What is written and the words that are left make the line.
-use Rattle.std.proofs.Common.{◌≡◌, ◌++◌, drop}
+use Rattle.std.proofs.Common.{◌≡◌, ◌++◌, take, drop}
 use Rattle.page.specs.Page.{fields, shown}
 use Rattle.page.specs.Written.{written}
 use Rattle.page.proofs.sheet.Sheet.words.Given as goal
 
 abbrev pub invariant-loop-word : goal.invariant-loop-word
 invariant-loop-word g l =
-    written l.self ++ fields (shown g.L.Levels.model l.n) (drop l.word-index l.words)
-    ≡ written l.initial.self ++ fields (shown g.L.Levels.model l.n) l.words
+    take 2048 (written l.self ++ fields (shown g.L.Levels.model l.plan.factors) (drop l.word-index l.words))
+    ≡ take 2048 (written l.initial.self ++ fields (shown g.L.Levels.model l.plan.factors) l.words)

@@ -10,9 +10,9 @@ pub returns : goal.returns
 returns g c =
     let A = g.L.Levels.model in
     let f = c.args.file.now in
-    let q = content_of c.in_ok-self.field-0 in
-    let ok : read_file A f ≡ Ok q = sym c.read.ensures ∙ ap result_of c.in_ok-self.was in
+    let q = content_of c.in_ok-self-inside.field-0 in
+    let ok : read_file A f ≡ Ok q = sym c.read.ensures ∙ ap result_of c.in_ok-self-inside.was in
     record {
-      acts = subst (λ r. Acts r (content_of c.args.self.now.held) q (Ok tt)) (sym ok) (refl, refl);
+      acts = subst (λ r. Acts r c.args.self.now q (Ok tt)) (sym ok) (refl, refl);
       again = λ e. read_back A f q (λ i. omega (arith, c.type_inv.file i)) ok;
     }

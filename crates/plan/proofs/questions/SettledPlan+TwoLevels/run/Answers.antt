@@ -1,9 +1,9 @@
-use Rattle.contents.specs.List.{listed}
-use Rattle.plan.proofs.Running.{run_found, run_past}
+use Rattle.std.proofs.Common.{◌∙◌}
+use Rattle.plan.proofs.Running.{run_answer}
 use Rattle.plan.proofs.questions.SettledPlan+TwoLevels.run.Goals as goal
 
-pub returns-in-Some : goal.returns-in-Some
-returns-in-Some c = run_found c.args.self.now.held.factors c.factors.result (listed c.args.self.now.held.defining) c.list.result.now c.args.m c.in-Some.code c.factors.ensures c.list.ensures c.in-Some.ensures.found
-
-pub returns-in-None : goal.returns-in-None
-returns-in-None c = run_past c.args.self.now.held.factors c.factors.result (listed c.args.self.now.held.defining) c.list.result.now c.args.m c.factors.ensures c.list.ensures c.in-None.ensures.found
+pub returns : goal.returns
+returns c =
+    let p = c.args.self.now in
+    c.ok_or.ensures.value
+    ∙ run_answer p.factors c.factors.result p.defining c.list.result.now c.args.m c.run.result c.factors.ensures.value c.list.ensures.words c.run.ensures.found
