@@ -1,6 +1,5 @@
 pub mod Alike
 pub mod Called
-pub mod Carrying
 pub mod Examples
 pub mod Filed
 pub mod Twos

@@ -1,8 +1,5 @@
 -- The calls and plans of the code, in the words of the working.
 use Rattle.std.specs.Prelude.{true, false}
-use Rattle.plan.specs.declared.settled.SettledPlan.{SettledPlan}
-use Rattle.contents.specs.Content.{Content}
-use Rattle.contents.specs.Held.{content_of}
 use Rattle.history.specs.declared.call.Call.{Call as Coded}
 use Rattle.history.specs.declared.call.Call.TheVariants.{Start, Read, Admit, Strike, Settle, Reopen, Ask}
 use Rattle.history.specs.declared.trial.Trial.{Trial}
@@ -20,11 +17,6 @@ meant Reopen = reopen
 meant (Ask question) = ask
 
 -- a plan of the code: open or settled, and its content
-module _ {L C W M : Type 0} where
-  abbrev pub working_of : Trial L C W M → Working
-  working_of (Open p) = record { settled = false; content = content_of p.held }
-  working_of (Settled p) = record { settled = true; content = content_of p.held }
-
-  -- the content of a settled plan of the code
-  abbrev pub plan_content : SettledPlan L C W M → Content
-  plan_content p = content_of p.held
+abbrev pub working_of : {L : Type 0} → Trial L → Working
+working_of (Open p) = record { settled = false; content = p }
+working_of (Settled p) = record { settled = true; content = p }

@@ -1,11 +1,10 @@
 // A settled plan is asked, after whatever calls made it.
-ghost use Rattle.std.specs.Prelude.{◌≡◌, map, IfSome, Some, None};
-ghost use Rattle.std.specs.Option.{option_map};
+ghost use Rattle.std.specs.Prelude.{◌≡◌, map, IfSome};
 ghost use Rattle.plan.specs.Answers.{chosen};
 ghost use Rattle.page.specs.Page.{page as page_of};
 ghost use Rattle.history.specs.Calls.{after_all, new, settled_content};
 ghost use Rattle.history.specs.Law.{Answered, WhateverTheCalls};
-ghost use Rattle.history.specs.Meant.{meant, plan_content, working_of};
+ghost use Rattle.history.specs.Meant.{meant};
 
 use crate::call::Call;
 use crate::run::carry_out;
@@ -16,26 +15,13 @@ use page::page;
 use plan::SettledPlan;
 use preferences::Preference;
 
-// The plan, if it is settled.
-fn into_settled<L: Levels>(trial: Trial<L>) -> Option<SettledPlan<L>>
-    ensures { option_map plan_content result ≡ settled_content (Some (working_of trial)) }
-{
-    match trial {
-        Trial::Settled(plan) => Some(plan),
-        Trial::Open(_) => None,
-    }
-}
-
 // Carries out calls on a new plan, and gives the settled plan that they leave; absent where they leave none. Whatever
 // the calls were, its generators are the best, and settled plans with the same words answer alike.
 pub fn settled_after<L: Levels>(calls: &[Call<'_>]) -> Option<SettledPlan<L>>
-    ensures content { option_map plan_content result ≡ settled_content (after_all L.Levels.model (map meant calls.now) new) }
-    ensures whatever_the_calls { IfSome (option_map plan_content result) (WhateverTheCalls L.Levels.model) }
+    ensures content { result ≡ settled_content (after_all L.Levels.model (map meant calls.now) new) }
+    ensures whatever_the_calls { IfSome result (WhateverTheCalls L.Levels.model) }
 {
-    match carry_out::<L>(calls) {
-        Some(trial) => into_settled(trial),
-        None => None,
-    }
+    carry_out::<L>(calls).and_then(Trial::into_settled)
 }
 
 // Carries out calls on a new plan, and asks the settled plan for the best generators of a side.
@@ -47,10 +33,7 @@ pub fn generators_after<L: Levels, P: Preference<L>>(
 ) -> Option<Result<usize, Refusal>>
     ensures { Answered L.Levels.model (map meant calls.now) (chosen L.Levels.model (P.Preference.good preference.now) side) memory.old memory.new result }
 {
-    match settled_after::<L>(calls) {
-        Some(plan) => Some(plan.choose(side, preference, memory)),
-        None => None,
-    }
+    Some(settled_after::<L>(calls)?.choose(side, preference, memory))
 }
 
 // Carries out calls on a new plan, and asks the settled plan for its page.
@@ -60,8 +43,5 @@ pub fn page_after<L: Levels>(
 ) -> Option<Result<usize, Refusal>>
     ensures { Answered L.Levels.model (map meant calls.now) (page_of L.Levels.model) memory.old memory.new result }
 {
-    match settled_after::<L>(calls) {
-        Some(plan) => Some(page(&plan, memory)),
-        None => None,
-    }
+    Some(page(&settled_after::<L>(calls)?, memory))
 }

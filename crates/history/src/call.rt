@@ -1,4 +1,4 @@
-// The calls on a plan, with what they are handed.
+// The calls on a plan, with what they are handed: enums, not closures, since the law speaks of every list of calls.
 use contents::Side;
 
 // A question whose answer is let go.
@@ -14,6 +14,7 @@ pub enum Question {
     Page,
 }
 
+// A call; an open plan takes Start to Settle, a settled one Reopen and Ask.
 #[derive(Clone, Copy)]
 pub enum Call<'a> {
     Start(u8),

@@ -4,10 +4,9 @@ ghost use Rattle.page.specs.Page.{page as page_of};
 ghost use Rattle.planfile.specs.File.{read_file};
 ghost use Rattle.history.specs.Law.{PageOfFile, levels_of};
 
-use crate::asked::page_after;
-use crate::call::Call;
 use contents::Refusal;
 use levels::{Levels, ThreeLevels, TwoLevels};
+use page::page;
 use plan::OpenPlan;
 
 // Reads a file into a new plan, settles it, and asks for its page.
@@ -16,10 +15,7 @@ pub fn page_of_file<L: Levels>(file: &[u8], memory: &mut [u8]) -> Result<usize, 
 {
     let mut plan = OpenPlan::<L>::new();
     plan.read(file)?;
-    match page_after::<L>(&[Call::Read(file), Call::Settle], memory) {
-        Some(answer) => answer,
-        None => unreachable(),
-    }
+    page(&plan.settle(), memory)
 }
 
 // Writes the trial page of a plan file into memory, and tells how many bytes it has. A file whose byte 5, from 0, is 3
@@ -27,9 +23,9 @@ pub fn page_of_file<L: Levels>(file: &[u8], memory: &mut [u8]) -> Result<usize, 
 pub fn trial_page(file: &[u8], memory: &mut [u8]) -> Result<usize, Refusal>
     ensures { PageOfFile (levels_of file.now) file.now memory.old memory.new result }
 {
-    if file.len() > 5 && file[5] == 3 {
-        page_of_file::<ThreeLevels>(file, memory)
-    } else {
-        page_of_file::<TwoLevels>(file, memory)
+    // The byte of the file is a number.
+    match file.get(5) {
+        Some(3) => page_of_file::<ThreeLevels>(file, memory),
+        _ => page_of_file::<TwoLevels>(file, memory),
     }
 }

@@ -1,7 +1,6 @@
 // A list of calls is carried out on a new plan.
 ghost use Rattle.std.specs.Prelude.{◌≡◌, map};
 ghost use Rattle.std.specs.Option.{option_map};
-ghost use Rattle.contents.specs.Held.{content_of};
 ghost use Rattle.history.specs.Calls.{after, after_all, new, of_open, of_settled};
 ghost use Rattle.history.specs.Meant.{meant, working_of};
 
@@ -41,34 +40,22 @@ fn step<L: Levels>(trial: Trial<L>, call: Call<'_>) -> Option<Trial<L>>
 
 // One call on an open plan.
 fn step_open<L: Levels>(mut plan: OpenPlan<L>, call: Call<'_>) -> Option<Trial<L>>
-    ensures { option_map working_of result ≡ of_open L.Levels.model (meant call.entry) (content_of plan.held) }
+    ensures { option_map working_of result ≡ of_open L.Levels.model (meant call.entry) plan }
 {
-    match call {
-        Call::Start(n) => {
-            let _ = plan.start(n);
-            Some(Trial::Open(plan))
-        }
-        Call::Read(file) => {
-            let _ = plan.read(file);
-            Some(Trial::Open(plan))
-        }
-        Call::Admit(side, word) => {
-            let _ = plan.admit(side, word);
-            Some(Trial::Open(plan))
-        }
-        Call::Strike(side, place) => {
-            let _ = plan.strike(side, place);
-            Some(Trial::Open(plan))
-        }
-        Call::Settle => Some(Trial::Settled(plan.settle())),
-        Call::Reopen => None,
-        Call::Ask(_) => None,
-    }
+    let _ = match call {
+        Call::Start(n) => plan.start(n),
+        Call::Read(file) => plan.read(file),
+        Call::Admit(side, word) => plan.admit(side, word),
+        Call::Strike(side, place) => plan.strike(side, place),
+        Call::Settle => return Some(Trial::Settled(plan.settle())),
+        Call::Reopen | Call::Ask(_) => return None,
+    };
+    Some(Trial::Open(plan))
 }
 
 // One call on a settled plan.
 fn step_settled<L: Levels>(plan: SettledPlan<L>, call: Call<'_>) -> Option<Trial<L>>
-    ensures { option_map working_of result ≡ of_settled (meant call.entry) (content_of plan.held) }
+    ensures { option_map working_of result ≡ of_settled (meant call.entry) plan }
 {
     match call {
         Call::Reopen => Some(Trial::Open(plan.reopen())),
@@ -76,11 +63,7 @@ fn step_settled<L: Levels>(plan: SettledPlan<L>, call: Call<'_>) -> Option<Trial
             ask(&plan, question);
             Some(Trial::Settled(plan))
         }
-        Call::Start(_) => None,
-        Call::Read(_) => None,
-        Call::Admit(_, _) => None,
-        Call::Strike(_, _) => None,
-        Call::Settle => None,
+        Call::Start(_) | Call::Read(_) | Call::Admit(..) | Call::Strike(..) | Call::Settle => None,
     }
 }
 

@@ -3,37 +3,24 @@ use contents::{Refusal, Side};
 use levels::TwoLevels;
 use plan::{OpenPlan, SettledPlan};
 use preferences::{Cheapest, Longest, Reversed, Shortest};
+use std::fmt::Display;
 use std::io;
 
-// Prints what a call answered: a number, or a refusal.
-pub(crate) fn outcome(
+// Prints what a call answered, or its refusal.
+fn outcome<T: Display + Drop>(
     rt: &HostRuntime,
     call: &str,
-    answer: Result<u64, Refusal>,
+    answer: Result<T, Refusal>,
 ) -> io::Result<()> {
     match answer {
-        Ok(number) => println!(rt; "{call}: {number}"),
-        Err(refusal) => {
-            let number = refusal.number();
-            println!(rt; "{call}: refused {number}")
-        }
+        Ok(value) => println!(rt; "{call}: {value}"),
+        Err(refusal) => println!(rt; "{call}: {refusal}"),
     }
 }
 
 // The same of a call that answers nothing but that it acted.
 fn acted(rt: &HostRuntime, call: &str, answer: Result<(), Refusal>) -> io::Result<()> {
-    match answer {
-        Ok(()) => println!(rt; "{call}: done"),
-        Err(refusal) => outcome(rt, call, Err(refusal)),
-    }
-}
-
-// The same of a call that tells how much it wrote.
-fn wrote(rt: &HostRuntime, call: &str, answer: Result<usize, Refusal>) -> io::Result<()> {
-    match answer {
-        Ok(len) => outcome(rt, call, Ok(len as u64)),
-        Err(refusal) => outcome(rt, call, Err(refusal)),
-    }
+    outcome(rt, call, answer.map(|()| "done"))
 }
 
 // A settled plan of two levels and n factors, with the words that are admitted.
@@ -65,8 +52,8 @@ pub(crate) fn limits(rt: &HostRuntime) -> io::Result<()> {
     acted(rt, "strike place 1", plan.strike(Side::Defining, 1))?;
     acted(rt, "admit 63 after the strike", plan.admit(Side::Block, 63))?;
     let _ = plan.start(17);
-    for i in 0..16u64 {
-        let _ = plan.admit(Side::Defining, 1u64.wrapping_shl(i as u32));
+    for letter in 0..16u32 {
+        let _ = plan.admit(Side::Defining, 1 << letter);
     }
     acted(
         rt,
@@ -79,8 +66,8 @@ pub(crate) fn limits(rt: &HostRuntime) -> io::Result<()> {
 // The questions about three factors with the defining word 7.
 pub(crate) fn three_factors(rt: &HostRuntime) -> io::Result<()> {
     let plan = settled(3, &[7], &[]);
-    wrote(rt, "write into 16 bytes", plan.write(&mut [0; 16]))?;
-    wrote(rt, "write into 17 bytes", plan.write(&mut [0; 17]))?;
+    outcome(rt, "write into 16 bytes", plan.write(&mut [0; 16]))?;
+    outcome(rt, "write into 17 bytes", plan.write(&mut [0; 17]))?;
     outcome(rt, "word at place 1", plan.word(Side::Defining, 1))?;
     outcome(rt, "word at place 2", plan.word(Side::Defining, 2))?;
     for m in 0..5u64 {
@@ -103,32 +90,28 @@ pub(crate) fn generators(rt: &HostRuntime) -> io::Result<()> {
     let longest = Reversed(Shortest);
     let mut words = [0; 16];
     let plan = settled(6, &[], &[3, 12, 21, 37]);
-    wrote(
+    outcome(
         rt,
         "longest",
         plan.choose::<Longest>(Side::Block, &longest, &mut words),
     )?;
-    for word in &words[0..4] {
+    for word in words.iter().take(4) {
         println!(rt; "word {word}")?;
     }
     let mut costs = [0; 32];
-    costs[0] = 1;
-    costs[1] = 5;
-    costs[2] = 1;
+    costs[..3].copy_from_slice(&[1, 5, 1]);
     let mut scores = [0; 16];
     let plan = settled(3, &[], &[3, 5]);
     let cheapest = Cheapest::new(costs);
-    wrote(
+    outcome(
         rt,
         "cheapest",
         plan.choose_scored(Side::Block, &cheapest, &mut words, &mut scores),
     )?;
-    for i in 0..2usize {
-        let word = words[i];
-        let score = scores[i];
+    for (word, score) in words.iter().zip(&scores).take(2) {
         println!(rt; "word {word} score {score}")?;
     }
-    wrote(
+    outcome(
         rt,
         "cheapest into no memory",
         plan.choose_scored(Side::Block, &cheapest, &mut words, &mut [0; 1]),

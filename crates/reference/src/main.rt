@@ -5,7 +5,6 @@ use calls::{aliases, generators, limits, three_factors};
 use history::trial_page;
 use std::io;
 use std::io::Write;
-use verdicts::verdicts as judged;
 
 mod calls;
 mod verdicts;
@@ -142,17 +141,14 @@ static CASES: [Case; 30] = [
     },
 ];
 
-// Prints the page of a file, or the number of its refusal.
+// Prints the page of a file, or its refusal.
 fn show(rt: &HostRuntime, case: &Case) -> io::Result<()> {
     let name = case.name;
     println!(rt; "{name}")?;
     let mut memory = [0; PAGE];
     match trial_page(case.file, &mut memory) {
-        Ok(len) => rt.stdout().write_all(&memory[0..len.min(PAGE)]),
-        Err(refusal) => {
-            let number = refusal.number();
-            println!(rt; "refused {number}")
-        }
+        Ok(len) => rt.stdout().write_all(&memory[..len]),
+        Err(refusal) => println!(rt; "{refusal}"),
     }
 }
 
@@ -164,5 +160,5 @@ fn main(rt: HostRuntime) -> io::Result<()> {
     three_factors(&rt)?;
     aliases(&rt)?;
     generators(&rt)?;
-    judged(&rt)
+    verdicts::verdicts(&rt)
 }

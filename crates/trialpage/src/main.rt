@@ -12,11 +12,8 @@ fn main(rt: HostRuntime) -> io::Result<()> {
     let mut file = Vec::new(rt.alloc());
     rt.stdin().read_to_end(&mut file)?;
     let mut memory = [0; PAGE];
-    match trial_page(file.as_slice(), &mut memory) {
-        Ok(len) => rt.stdout().write_all(&memory[0..len.min(PAGE)]),
-        Err(refusal) => {
-            let number = refusal.number();
-            println!(rt; "refused {number}")
-        }
+    match trial_page(&file, &mut memory) {
+        Ok(len) => rt.stdout().write_all(&memory[..len]),
+        Err(refusal) => println!(rt; "{refusal}"),
     }
 }

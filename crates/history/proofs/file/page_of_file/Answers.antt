@@ -1,11 +1,8 @@
-use Rattle.contents.specs.Content.{blank}
-use Rattle.planfile.specs.File.{read_file}
-use Rattle.contents.specs.Held.{content_of}
+use Rattle.std.proofs.Common.{rules}
 use Rattle.history.proofs.Filed.{page_read}
 use Rattle.history.proofs.file.page_of_file.Goals as goal
 
 pub returns : goal.returns
 returns g c =
-    let A = g.L.Levels.model in
-    page_read A (read_file A c.args.file.now) (blank 1) (content_of c.new-plan.result.held) (content_of c.read.new.self.held)
-    c.args.memory.now c.page_after.new.memory c.in-Some.answer c.in_ok-read.ensures.acts c.in-Some.ensures
+    page_read g.L.Levels.model g.met.L.Levels.lawful c.args.file.now c.new-plan.result c.settle.result _ _ _
+    (search rules) c.page.ensures.stored c.page.ensures.count
