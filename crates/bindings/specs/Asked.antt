@@ -2,10 +2,7 @@
 use Rattle.std.specs.Prelude.{ℕ, cond, List, length, Ok, Err, Result}
 use Rattle.contents.specs.declared.refusal.Refusal.{Refusal}
 use Rattle.contents.specs.declared.refusal.Refusal.TheVariants.{Memory}
-use Rattle.plan.specs.declared.open.OpenPlan.{OpenPlan}
-use Rattle.plan.specs.declared.settled.SettledPlan.{SettledPlan}
 use Rattle.contents.specs.Content.{Content}
-use Rattle.contents.specs.Held.{content_of}
 use Rattle.contents.specs.Memory.{both_fit, holding, holding_if, wrote}
 
 -- an answer about the content that was read, or the refusal
@@ -22,16 +19,6 @@ told (Err e) answer memory = Err e
 abbrev pub left : {X : Type 0} → Result Content Refusal → (Content → List X) → List X → List X
 left (Ok p) answer memory = holding (answer p) memory
 left (Err e) answer memory = memory
-
--- the content of a plan of the code, or the refusal
-module _ {L C W M : Type 0} where
-  abbrev pub opened : Result (OpenPlan L C W M) Refusal → Result Content Refusal
-  opened (Ok p) = Ok (content_of p.held)
-  opened (Err e) = Err e
-
-  abbrev pub settled : Result (SettledPlan L C W M) Refusal → Result Content Refusal
-  settled (Ok p) = Ok (content_of p.held)
-  settled (Err e) = Err e
 
 -- the same where an answer of two parts goes into two memories, neither of which may be too short
 abbrev pub told_both : Result Content Refusal → (Content → List ℕ) → List ℕ → List ℕ → Result ℕ Refusal

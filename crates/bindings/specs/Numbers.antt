@@ -9,6 +9,7 @@ use Rattle.contents.specs.declared.side.Side.{Side}
 use Rattle.contents.specs.declared.side.Side.TheVariants.{Defining, Block}
 use Rattle.bindings.specs.declared.numbers.Rule.{Rule}
 use Rattle.bindings.specs.declared.numbers.Rule.TheVariants.{Shortest, Cheapest, LeastAberration, Longest, CheapestThenLeastAberration}
+use Rattle.bindings.specs.declared.numbers.ScoredRule.{ScoredRule}
 
 -- 3 is three levels, any other number two
 abbrev pub levels_by : ℕ → Arithmetic
@@ -30,12 +31,18 @@ relation A costs LeastAberration = least_aberration A
 relation A costs Longest = reversed (shortest A)
 relation A costs CheapestThenLeastAberration = first_then_second (cheapest A costs) (least_aberration A)
 
--- the scored preference by number: 1 is cheapest, any other number shortest
-abbrev pub scored_relation : Arithmetic → List ℕ → ℕ → Relation
-scored_relation A costs x = cond (x == 1) (cheapest A costs) (shortest A)
+-- of the scored preferences 1 is cheapest, any other number shortest
+abbrev pub scored_rule_by : ℕ → ScoredRule
+scored_rule_by x = cond (x == 1) ScoredRule.Cheapest ScoredRule.Shortest
 
-abbrev pub scored_points : Arithmetic → List ℕ → ℕ → ℕ → ℕ → ℕ
-scored_points A costs x = cond (x == 1) (cost_score A costs) (length_score A)
+-- the relation and the scores of a scored rule
+abbrev pub scored_relation : Arithmetic → List ℕ → ScoredRule → Relation
+scored_relation A costs ScoredRule.Shortest = shortest A
+scored_relation A costs ScoredRule.Cheapest = cheapest A costs
+
+abbrev pub scored_points : Arithmetic → List ℕ → ScoredRule → ℕ → ℕ → ℕ
+scored_points A costs ScoredRule.Shortest = length_score A
+scored_points A costs ScoredRule.Cheapest = cost_score A costs
 
 -- 0 where the words are equal, 1 where the first is better, 2 where the second is
 abbrev pub verdict_number : Verdict → ℕ

@@ -1,7 +1,6 @@
 // A plan file is read into a new plan.
 ghost use Rattle.std.specs.Prelude.{◌≡◌};
 ghost use Rattle.planfile.specs.File.{read_file};
-ghost use Rattle.bindings.specs.Asked.{opened, settled};
 
 use contents::Refusal;
 use levels::Levels;
@@ -9,7 +8,7 @@ use plan::{OpenPlan, SettledPlan};
 
 // The open plan that a file holds.
 pub(crate) fn open<L: Levels>(file: &[u8]) -> Result<OpenPlan<L>, Refusal>
-    ensures { opened result ≡ read_file L.Levels.model file.now }
+    ensures { result ≡ read_file L.Levels.model file.now }
 {
     let mut plan = OpenPlan::<L>::new();
     plan.read(file)?;
@@ -18,7 +17,7 @@ pub(crate) fn open<L: Levels>(file: &[u8]) -> Result<OpenPlan<L>, Refusal>
 
 // The settled plan that a file holds.
 pub(crate) fn settle<L: Levels>(file: &[u8]) -> Result<SettledPlan<L>, Refusal>
-    ensures { settled result ≡ read_file L.Levels.model file.now }
+    ensures { result ≡ read_file L.Levels.model file.now }
 {
     let plan = open::<L>(file)?;
     Ok(plan.settle())

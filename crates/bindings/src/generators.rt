@@ -7,11 +7,11 @@ ghost use Rattle.bindings.specs.Numbers.{levels_by, relation, rule_by, side_by};
 ghost use Rattle.bindings.specs.Outcomes.{outcome_of};
 
 use crate::file::settle;
-use crate::numbers::{Costs, Rule, rule_by, side_by};
-use crate::outcome::{Outcome, reported_length};
+use crate::numbers::{Costs, Rule, side_by};
+use crate::outcome::Outcome;
 use contents::{Refusal, Side};
-use levels::{Levels, ThreeLevels, TwoLevels};
-use preferences::{Cheapest, FirstThenSecond, LeastAberration, Preference, Reversed, Shortest};
+use levels::Levels;
+use preferences::Preference;
 
 // By any preference.
 fn choose<L: Levels, P: Preference<L>>(
@@ -37,20 +37,7 @@ fn choose_by<L: Levels>(
     ensures count { result ≡ told (read_file L.Levels.model file.now) (chosen L.Levels.model (relation L.Levels.model costs rule) side) memory.old }
     ensures stored { memory.new ≡ left (read_file L.Levels.model file.now) (chosen L.Levels.model (relation L.Levels.model costs rule) side) memory.old }
 {
-    let cheapest = Cheapest::new(costs);
-    match rule {
-        Rule::Shortest => choose::<L, Shortest>(file, side, &Shortest, memory),
-        Rule::Cheapest => choose::<L, Cheapest>(file, side, &cheapest, memory),
-        Rule::LeastAberration => choose::<L, LeastAberration>(file, side, &LeastAberration, memory),
-        Rule::Longest => choose::<L, Reversed<Shortest>>(file, side, &Reversed(Shortest), memory),
-        Rule::CheapestThenLeastAberration => {
-            let both = FirstThenSecond {
-                first: cheapest,
-                second: LeastAberration,
-            };
-            choose::<L, FirstThenSecond<Cheapest, LeastAberration>>(file, side, &both, memory)
-        }
-    }
+    by_rule!(rule, costs, preference => choose::<L, _>(file, side, &preference, memory))
 }
 
 // Writes the best generators into memory; the value is how many there are.
@@ -67,10 +54,6 @@ pub extern "C" fn zorilla_choose(
     ensures stored { memory.new ≡ left (read_file (levels_by levels) file.now) (chosen (levels_by levels) (relation (levels_by levels) costs.now.table (rule_by preference)) (side_by side)) memory.old }
 {
     let side = side_by(side);
-    let rule = rule_by(preference);
-    if levels == 3 {
-        reported_length(choose_by::<ThreeLevels>(file, side, rule, costs.table, memory))
-    } else {
-        reported_length(choose_by::<TwoLevels>(file, side, rule, costs.table, memory))
-    }
+    let rule = Rule::from(preference);
+    by_levels!(levels, choose_by(file, side, rule, costs.table, memory)).into()
 }

@@ -4,7 +4,7 @@ ghost use Rattle.bindings.specs.Outcomes.{outcome_of};
 
 use contents::Refusal;
 
-// Refusal 0 and the answer, or the number of the refusal and 0.
+// Refusal 0 and the answer, or the number of the refusal and 0: C has no Result.
 #[repr(C)]
 #[derive(Clone, Copy)]
 pub struct Outcome {
@@ -13,24 +13,25 @@ pub struct Outcome {
 }
 
 // What a caller is told of an answer.
-pub(crate) fn reported(answer: Result<u64, Refusal>) -> Outcome
-    ensures { result ≡ outcome_of answer }
-{
-    match answer {
-        Ok(value) => Outcome { refusal: 0, value },
-        Err(refusal) => Outcome {
-            refusal: u32::from(refusal.number()),
-            value: 0,
-        },
+impl From<Result<u64, Refusal>> for Outcome {
+    ghost from_gives = { λ answer outcome. outcome ≡ outcome_of answer };
+
+    fn from(answer: Result<u64, Refusal>) -> Outcome {
+        match answer {
+            Ok(value) => Outcome { refusal: 0, value },
+            Err(refusal) => Outcome {
+                refusal: u32::from(refusal.number()),
+                value: 0,
+            },
+        }
     }
 }
 
 // The same of a length.
-pub(crate) fn reported_length(answer: Result<usize, Refusal>) -> Outcome
-    ensures { result ≡ outcome_of answer }
-{
-    match answer {
-        Ok(length) => reported(Ok(length as u64)),
-        Err(refusal) => reported(Err(refusal)),
+impl From<Result<usize, Refusal>> for Outcome {
+    ghost from_gives = { λ answer outcome. outcome ≡ outcome_of answer };
+
+    fn from(answer: Result<usize, Refusal>) -> Outcome {
+        Outcome::from(answer.map(|length| length as u64))
     }
 }

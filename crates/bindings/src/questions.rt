@@ -10,32 +10,32 @@ ghost use Rattle.bindings.specs.Questions.{count_of, factors_of, pattern_of, res
 
 use crate::file::settle;
 use crate::numbers::side_by;
-use crate::outcome::{Outcome, reported, reported_length};
+use crate::outcome::Outcome;
 use contents::{Refusal, Side};
-use levels::{Levels, ThreeLevels, TwoLevels};
+use levels::Levels;
 
+// The number of factors of a file's plan.
 fn factors<L: Levels>(file: &[u8]) -> Result<u64, Refusal>
     ensures { result ≡ asked (read_file L.Levels.model file.now) factors_of }
 {
     Ok(u64::from(settle::<L>(file)?.factors()))
 }
 
+// How many words a list of a file's plan has.
 fn count<L: Levels>(file: &[u8], side: Side) -> Result<usize, Refusal>
     ensures { result ≡ asked (read_file L.Levels.model file.now) (count_of side) }
 {
-    let (defining, block) = settle::<L>(file)?.counts();
-    match side {
-        Side::Defining => Ok(defining),
-        Side::Block => Ok(block),
-    }
+    Ok(settle::<L>(file)?.list(side).len())
 }
 
+// The word at a place of a list of a file's plan.
 fn word<L: Levels>(file: &[u8], side: Side, place: usize) -> Result<u64, Refusal>
     ensures { result ≡ asked (read_file L.Levels.model file.now) (word_at side place) }
 {
     settle::<L>(file)?.word(side, place)
 }
 
+// The wordlength pattern of a file's plan.
 fn pattern<L: Levels>(file: &[u8], memory: &mut [u32]) -> Result<usize, Refusal>
     ensures count { result ≡ told (read_file L.Levels.model file.now) (pattern_of L.Levels.model) memory.old }
     ensures stored { memory.new ≡ left (read_file L.Levels.model file.now) (pattern_of L.Levels.model) memory.old }
@@ -43,24 +43,25 @@ fn pattern<L: Levels>(file: &[u8], memory: &mut [u32]) -> Result<usize, Refusal>
     settle::<L>(file)?.pattern(memory)
 }
 
+// Two functions for the resolution: C asks for its halves apart, since it has no pairs.
+
+// The length of the resolution, or 0.
 fn resolution<L: Levels>(file: &[u8]) -> Result<u64, Refusal>
     ensures { result ≡ asked (read_file L.Levels.model file.now) (resolution_length L.Levels.model) }
 {
-    match settle::<L>(file)?.resolution() {
-        Some((length, _)) => Ok(u64::from(length)),
-        None => Ok(0),
-    }
+    let resolution = settle::<L>(file)?.resolution();
+    Ok(resolution.map_or(0, |(length, _)| u64::from(length)))
 }
 
+// The count of the resolution, or 0.
 fn shortest_words<L: Levels>(file: &[u8]) -> Result<u64, Refusal>
     ensures { result ≡ asked (read_file L.Levels.model file.now) (resolution_count L.Levels.model) }
 {
-    match settle::<L>(file)?.resolution() {
-        Some((_, count)) => Ok(u64::from(count)),
-        None => Ok(0),
-    }
+    let resolution = settle::<L>(file)?.resolution();
+    Ok(resolution.map_or(0, |(_, count)| u64::from(count)))
 }
 
+// Alias member m of a word over the defining words of a file's plan.
 fn alias_member<L: Levels>(file: &[u8], word: u64, m: u64) -> Result<u64, Refusal>
     ensures { result ≡ asked (read_file L.Levels.model file.now) (alias_member L.Levels.model word m) }
 {
@@ -72,11 +73,7 @@ fn alias_member<L: Levels>(file: &[u8], word: u64, m: u64) -> Result<u64, Refusa
 pub extern "C" fn zorilla_factors(levels: u8, file: &[u8]) -> Outcome
     ensures { result ≡ outcome_of (asked (read_file (levels_by levels) file.now) factors_of) }
 {
-    if levels == 3 {
-        reported(factors::<ThreeLevels>(file))
-    } else {
-        reported(factors::<TwoLevels>(file))
-    }
+    by_levels!(levels, factors(file)).into()
 }
 
 // How many words the list of a side has.
@@ -85,11 +82,7 @@ pub extern "C" fn zorilla_count(levels: u8, file: &[u8], side: u8) -> Outcome
     ensures { result ≡ outcome_of (asked (read_file (levels_by levels) file.now) (count_of (side_by side))) }
 {
     let side = side_by(side);
-    if levels == 3 {
-        reported_length(count::<ThreeLevels>(file, side))
-    } else {
-        reported_length(count::<TwoLevels>(file, side))
-    }
+    by_levels!(levels, count(file, side)).into()
 }
 
 // The word at a place of a side's list, from 1.
@@ -98,11 +91,7 @@ pub extern "C" fn zorilla_word(levels: u8, file: &[u8], side: u8, place: usize) 
     ensures { result ≡ outcome_of (asked (read_file (levels_by levels) file.now) (word_at (side_by side) place)) }
 {
     let side = side_by(side);
-    if levels == 3 {
-        reported(word::<ThreeLevels>(file, side, place))
-    } else {
-        reported(word::<TwoLevels>(file, side, place))
-    }
+    by_levels!(levels, word(file, side, place)).into()
 }
 
 // Writes the wordlength pattern into memory; the value is the number of factors.
@@ -111,11 +100,7 @@ pub extern "C" fn zorilla_pattern(levels: u8, file: &[u8], memory: &mut [u32]) -
     ensures answer { result ≡ outcome_of (told (read_file (levels_by levels) file.now) (pattern_of (levels_by levels)) memory.old) }
     ensures stored { memory.new ≡ left (read_file (levels_by levels) file.now) (pattern_of (levels_by levels)) memory.old }
 {
-    if levels == 3 {
-        reported_length(pattern::<ThreeLevels>(file, memory))
-    } else {
-        reported_length(pattern::<TwoLevels>(file, memory))
-    }
+    by_levels!(levels, pattern(file, memory)).into()
 }
 
 // The resolution; 0 where there is none.
@@ -123,11 +108,7 @@ pub extern "C" fn zorilla_pattern(levels: u8, file: &[u8], memory: &mut [u32]) -
 pub extern "C" fn zorilla_resolution(levels: u8, file: &[u8]) -> Outcome
     ensures { result ≡ outcome_of (asked (read_file (levels_by levels) file.now) (resolution_length (levels_by levels))) }
 {
-    if levels == 3 {
-        reported(resolution::<ThreeLevels>(file))
-    } else {
-        reported(resolution::<TwoLevels>(file))
-    }
+    by_levels!(levels, resolution(file)).into()
 }
 
 // The count of the resolution; 0 where there is none.
@@ -135,11 +116,7 @@ pub extern "C" fn zorilla_resolution(levels: u8, file: &[u8]) -> Outcome
 pub extern "C" fn zorilla_resolution_count(levels: u8, file: &[u8]) -> Outcome
     ensures { result ≡ outcome_of (asked (read_file (levels_by levels) file.now) (resolution_count (levels_by levels))) }
 {
-    if levels == 3 {
-        reported(shortest_words::<ThreeLevels>(file))
-    } else {
-        reported(shortest_words::<TwoLevels>(file))
-    }
+    by_levels!(levels, shortest_words(file)).into()
 }
 
 // Alias member m of a word, from 0, in ascending code.
@@ -147,9 +124,5 @@ pub extern "C" fn zorilla_resolution_count(levels: u8, file: &[u8]) -> Outcome
 pub extern "C" fn zorilla_alias_member(levels: u8, file: &[u8], word: u64, m: u64) -> Outcome
     ensures { result ≡ outcome_of (asked (read_file (levels_by levels) file.now) (alias_member (levels_by levels) word m)) }
 {
-    if levels == 3 {
-        reported(alias_member::<ThreeLevels>(file, word, m))
-    } else {
-        reported(alias_member::<TwoLevels>(file, word, m))
-    }
+    by_levels!(levels, alias_member(file, word, m)).into()
 }

@@ -3,14 +3,14 @@ ghost use Rattle.std.specs.Prelude.{◌≡◌};
 ghost use Rattle.plan.specs.Answers.{chosen, chosen_scores};
 ghost use Rattle.planfile.specs.File.{read_file};
 ghost use Rattle.bindings.specs.Asked.{left_both, told_both};
-ghost use Rattle.bindings.specs.Numbers.{levels_by, scored_points, scored_relation, side_by};
+ghost use Rattle.bindings.specs.Numbers.{levels_by, scored_points, scored_relation, scored_rule_by, side_by};
 ghost use Rattle.bindings.specs.Outcomes.{outcome_of};
 
 use crate::file::settle;
-use crate::numbers::{Costs, side_by};
-use crate::outcome::{Outcome, reported_length};
+use crate::numbers::{Costs, ScoredRule, side_by};
+use crate::outcome::Outcome;
 use contents::{Refusal, Side};
-use levels::{Levels, ThreeLevels, TwoLevels};
+use levels::Levels;
 use preferences::{Cheapest, Scored, Shortest};
 
 // By any scored preference.
@@ -28,23 +28,25 @@ fn choose_scored<L: Levels, P: Scored<L>>(
     settle::<L>(file)?.choose_scored(side, preference, words, scores)
 }
 
-// By cheapest if the number is 1, else by shortest.
+// By a scored rule and the costs that it may need. A match: it is the only one over this enum, where a type that is Scored
+// would need three, for the question, the score and the laws.
 fn choose_scored_by<L: Levels>(
     file: &[u8],
     side: Side,
-    preference: u8,
+    rule: ScoredRule,
     costs: [u16; 32],
     words: &mut [u64],
     scores: &mut [u32],
 ) -> Result<usize, Refusal>
-    ensures count { result ≡ told_both (read_file L.Levels.model file.now) (chosen L.Levels.model (scored_relation L.Levels.model costs preference) side) words.old scores.old }
-    ensures words { words.new ≡ left_both (read_file L.Levels.model file.now) (chosen L.Levels.model (scored_relation L.Levels.model costs preference) side) (chosen L.Levels.model (scored_relation L.Levels.model costs preference) side) words.old scores.old words.old }
-    ensures scores { scores.new ≡ left_both (read_file L.Levels.model file.now) (chosen L.Levels.model (scored_relation L.Levels.model costs preference) side) (chosen_scores L.Levels.model (scored_relation L.Levels.model costs preference) (scored_points L.Levels.model costs preference) side) words.old scores.old scores.old }
+    ensures count { result ≡ told_both (read_file L.Levels.model file.now) (chosen L.Levels.model (scored_relation L.Levels.model costs rule) side) words.old scores.old }
+    ensures words { words.new ≡ left_both (read_file L.Levels.model file.now) (chosen L.Levels.model (scored_relation L.Levels.model costs rule) side) (chosen L.Levels.model (scored_relation L.Levels.model costs rule) side) words.old scores.old words.old }
+    ensures scores { scores.new ≡ left_both (read_file L.Levels.model file.now) (chosen L.Levels.model (scored_relation L.Levels.model costs rule) side) (chosen_scores L.Levels.model (scored_relation L.Levels.model costs rule) (scored_points L.Levels.model costs rule) side) words.old scores.old scores.old }
 {
-    if preference == 1 {
-        choose_scored::<L, Cheapest>(file, side, &Cheapest::new(costs), words, scores)
-    } else {
-        choose_scored::<L, Shortest>(file, side, &Shortest, words, scores)
+    match rule {
+        ScoredRule::Shortest => choose_scored::<L, _>(file, side, &Shortest, words, scores),
+        ScoredRule::Cheapest => {
+            choose_scored::<L, _>(file, side, &Cheapest::new(costs), words, scores)
+        }
     }
 }
 
@@ -59,28 +61,15 @@ pub extern "C" fn zorilla_choose_scored(
     words: &mut [u64],
     scores: &mut [u32],
 ) -> Outcome
-    ensures count { result ≡ outcome_of (told_both (read_file (levels_by levels) file.now) (chosen (levels_by levels) (scored_relation (levels_by levels) costs.now.table preference) (side_by side)) words.old scores.old) }
-    ensures words { words.new ≡ left_both (read_file (levels_by levels) file.now) (chosen (levels_by levels) (scored_relation (levels_by levels) costs.now.table preference) (side_by side)) (chosen (levels_by levels) (scored_relation (levels_by levels) costs.now.table preference) (side_by side)) words.old scores.old words.old }
-    ensures scores { scores.new ≡ left_both (read_file (levels_by levels) file.now) (chosen (levels_by levels) (scored_relation (levels_by levels) costs.now.table preference) (side_by side)) (chosen_scores (levels_by levels) (scored_relation (levels_by levels) costs.now.table preference) (scored_points (levels_by levels) costs.now.table preference) (side_by side)) words.old scores.old scores.old }
+    ensures count { result ≡ outcome_of (told_both (read_file (levels_by levels) file.now) (chosen (levels_by levels) (scored_relation (levels_by levels) costs.now.table (scored_rule_by preference)) (side_by side)) words.old scores.old) }
+    ensures words { words.new ≡ left_both (read_file (levels_by levels) file.now) (chosen (levels_by levels) (scored_relation (levels_by levels) costs.now.table (scored_rule_by preference)) (side_by side)) (chosen (levels_by levels) (scored_relation (levels_by levels) costs.now.table (scored_rule_by preference)) (side_by side)) words.old scores.old words.old }
+    ensures scores { scores.new ≡ left_both (read_file (levels_by levels) file.now) (chosen (levels_by levels) (scored_relation (levels_by levels) costs.now.table (scored_rule_by preference)) (side_by side)) (chosen_scores (levels_by levels) (scored_relation (levels_by levels) costs.now.table (scored_rule_by preference)) (scored_points (levels_by levels) costs.now.table (scored_rule_by preference)) (side_by side)) words.old scores.old scores.old }
 {
     let side = side_by(side);
-    if levels == 3 {
-        reported_length(choose_scored_by::<ThreeLevels>(
-            file,
-            side,
-            preference,
-            costs.table,
-            words,
-            scores,
-        ))
-    } else {
-        reported_length(choose_scored_by::<TwoLevels>(
-            file,
-            side,
-            preference,
-            costs.table,
-            words,
-            scores,
-        ))
-    }
+    let rule = ScoredRule::from(preference);
+    by_levels!(
+        levels,
+        choose_scored_by(file, side, rule, costs.table, words, scores)
+    )
+    .into()
 }

@@ -8,10 +8,11 @@ ghost use Rattle.bindings.specs.Outcomes.{outcome_of};
 ghost use Rattle.bindings.specs.Questions.{clear_count, clear_of};
 
 use crate::file::settle;
-use crate::outcome::{Outcome, reported, reported_length};
+use crate::outcome::Outcome;
 use contents::Refusal;
 use levels::TwoLevels;
 
+// The clear pairs of a file's plan.
 fn clear(file: &[u8], memory: &mut [u8]) -> Result<usize, Refusal>
     ensures count { result ≡ asked (read_file two file.now) (clear_count memory.old) }
     ensures stored { memory.new ≡ left (read_file two file.now) clear_of memory.old }
@@ -19,12 +20,14 @@ fn clear(file: &[u8], memory: &mut [u8]) -> Result<usize, Refusal>
     settle::<TwoLevels>(file)?.clear(memory)
 }
 
+// Run m of a file's plan.
 fn run(file: &[u8], m: u64) -> Result<u64, Refusal>
     ensures { result ≡ asked (read_file two file.now) (run_of m) }
 {
     settle::<TwoLevels>(file)?.run(m)
 }
 
+// The block number of a run.
 fn block_number(file: &[u8], run: u64, words: &[u64]) -> Result<u64, Refusal>
     ensures { result ≡ asked (read_file two file.now) (block_of run words.now) }
 {
@@ -38,7 +41,7 @@ pub extern "C" fn zorilla_clear(file: &[u8], memory: &mut [u8]) -> Outcome
     ensures answer { result ≡ outcome_of (asked (read_file two file.now) (clear_count memory.old)) }
     ensures stored { memory.new ≡ left (read_file two file.now) clear_of memory.old }
 {
-    reported_length(clear(file, memory))
+    clear(file, memory).into()
 }
 
 // Run m, from 0, in ascending code.
@@ -46,7 +49,7 @@ pub extern "C" fn zorilla_clear(file: &[u8], memory: &mut [u8]) -> Outcome
 pub extern "C" fn zorilla_run(file: &[u8], m: u64) -> Outcome
     ensures { result ≡ outcome_of (asked (read_file two file.now) (run_of m)) }
 {
-    reported(run(file, m))
+    run(file, m).into()
 }
 
 // The block number of a run under a list of words.
@@ -54,5 +57,5 @@ pub extern "C" fn zorilla_run(file: &[u8], m: u64) -> Outcome
 pub extern "C" fn zorilla_block_number(file: &[u8], run: u64, words: &[u64]) -> Outcome
     ensures { result ≡ outcome_of (asked (read_file two file.now) (block_of run words.now)) }
 {
-    reported(block_number(file, run, words))
+    block_number(file, run, words).into()
 }

@@ -1,12 +1,14 @@
-use Rattle.std.proofs.Common.{rules}
+use Rattle.std.proofs.Common.{ap, ◌∙◌}
 use Rattle.contents.specs.Content.{admitted}
-use Rattle.planfile.specs.File.{read_file}
-use Rattle.contents.specs.Held.{content_of}
-use Rattle.bindings.proofs.Acted.{change_refused}
+use Rattle.contents.specs.Memory.{holding}
+use Rattle.planfile.specs.File.{file_of, read_file}
+use Rattle.bindings.proofs.Acted.{change_left}
 use Rattle.bindings.proofs.changes.admit.Goals as goal
 
-pub returns-in_err-admit : goal.returns-in_err-admit
-returns-in_err-admit g c =
+pub returns-clause-stored : goal.returns-clause-stored
+returns-clause-stored g c =
     let A = g.L.Levels.model in
-    let fact = change_refused (read_file A c.args.file.now) (admitted A c.args.side c.args.word) (content_of c.in_ok-plan.plan.held) (content_of c.admit.new.self.held) _ c.in_ok-plan.ensures c.in_err-admit.ensures in
-    search rules
+    let memory = c.args.memory.now in
+    c.write.ensures.stored
+    ∙ ap (λ p. holding (file_of A p) memory) c.settle.ensures
+    ∙ change_left (admitted A c.args.side c.args.word) c.in_ok-plan.plan c.admit.new.self (file_of A) memory (read_file A c.args.file.now) c.in_ok-plan.ensures c.in_ok-admit.ensures

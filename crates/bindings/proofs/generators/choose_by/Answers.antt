@@ -21,7 +21,7 @@ returns-in-CheapestThenLeastAberration g c =
     let A = g.L.Levels.model in
     let o = read_file A c.args.file.now in
     let memory = c.args.memory.now in
-    let by-costs = c.new-cheapest.ensures in
+    let by-costs = c.new.ensures in
     let by-rule = sym c.in-CheapestThenLeastAberration.is in
     record {
       count = c.choose-in-CheapestThenLeastAberration.ensures.count
