@@ -218,13 +218,6 @@ empty_most T (suc k) =
     let one : cond (eqb (get_or T k 0) 0) 1 0 ≤ 1 = cond_both (eqb (get_or T k 0) 0) 1 0 (λ d. d ≤ 1) (λ _. omega arith) (λ _. omega arith) in
     omega (arith, one, empty_most T k)
 
--- an empty place is counted
-pub empty_some : (T : List ℕ) (p : ℕ) → 0 < p → get_or T (p - 1) 0 ≡ 0 → 1 ≤ empty_below T p
-empty_some T p some e =
-    let next : p ≡ suc (p - 1) = omega arith in
-    let one : empty_below T (suc (p - 1)) ≡ 1 + empty_below T (p - 1) = ap (λ b. cond b 1 0 + empty_below T (p - 1)) (eq-eqb (get_or T (p - 1) 0) 0 e) in
-    omega (arith, one, ap (empty_below T) next)
-
 -- the levels from place k on are those of run m, and so many digits of m are left
 pub record ChosenFrom (n : ℕ) (T : List ℕ) (m k x digits : ℕ) : Type 0 where
   pub whole : x % 2 ^ k ≡ 0

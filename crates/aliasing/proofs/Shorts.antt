@@ -257,11 +257,6 @@ letters_next i n l = ap (letters_from i) (let e : n - i ≡ suc (n - (i + 1)) = 
 pub pairs_with_next : (i j n : ℕ) → j < n → pairs_with i j (n - j) ≡ pair i j ∷ pairs_with i (j + 1) (n - (j + 1))
 pairs_with_next i j n l = ap (pairs_with i j) (let e : n - j ≡ suc (n - (j + 1)) = omega arith in e) ∙ ap (λ k. pair i j ∷ pairs_with i k (n - (j + 1))) (sym (add-one j))
 
--- the pairs with the first of the factors that are left
-pub pairs_from_next : (i n : ℕ) → i < n → pairs_from i (n - i) ≡ pairs_with i (i + 1) (n - (i + 1)) ++ pairs_from (i + 1) (n - (i + 1))
-pairs_from_next i n l =
-    ap (pairs_from i) (let e : n - i ≡ suc (n - (i + 1)) = omega arith in e) ∙ ap (λ j. pairs_with i j (n - (i + 1)) ++ pairs_from j (n - (i + 1))) (sym (add-one i))
-
 -- behind the letters stand the pairs
 pub short_length : (n : ℕ) (ss : List Short) → map (λ s. s.word) ss ≡ short_words n → length ss ≡ n + length (pairs n)
 short_length n ss words = omega (arith, ap length words, length-map ss (λ s. s.word), length-append (letters_from 0 n) (pairs n), letters_length 0 n)

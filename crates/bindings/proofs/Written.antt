@@ -2,11 +2,7 @@
 use Rattle.std.proofs.Common.{◌≡◌, ℕ, zero, suc, ◌+◌, ◌<◌, ◌≤◌, Bool, true, false, cond, ltb, List, [], ◌∷◌, length, get_or, take, drop, set, Ok, Err, sym, refl, ap, ◌∙◌, le_of_suc-le-suc, not-suc-le-zero, add-one, arith, length-drop, length-take, get_or-drop, get_or-take, ltb-false, ltb-true, le-ltb, lt-ltb}
 use Rattle.contents.specs.declared.refusal.Refusal.{Refusal}
 use Rattle.contents.specs.declared.refusal.Refusal.TheVariants.{Last}
-use Rattle.levels.specs.Arithmetic.{Arithmetic}
-use Rattle.levels.specs.Alias.{alias_set}
-use Rattle.levels.specs.Words.{legal}
-use Rattle.contents.specs.Content.{Content}
-use Rattle.plan.specs.Answers.{alias_member, entry}
+use Rattle.plan.specs.Answers.{entry}
 use Rattle.bindings.specs.Filled.{filled}
 
 filled_suc : (xs ys : List ℕ) (i : ℕ) → i < length xs → i < length ys → set (filled (take i xs) ys) i (get_or xs i 0) ≡ filled (take (suc i) xs) ys
@@ -62,7 +58,3 @@ pub entry_beyond : (xs : List ℕ) (i : ℕ) → 65536 ≤ i → Err Last ≡ en
 entry_beyond xs i h =
     let l : ltb i (length (take 65536 xs)) ≡ false = le-ltb _ _ (omega (arith, length-take 65536 xs)) in
     rw l
-
--- a member of a legal word's alias set is an entry of it
-pub legal_member : (A : Arithmetic) (p : Content) (w m : ℕ) → legal A p.factors w ≡ true → alias_member A w m p ≡ entry (alias_set A p.factors p.defining w) m
-legal_member A p w m h = rw h

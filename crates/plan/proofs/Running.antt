@@ -1,17 +1,15 @@
 -- The answers about runs and blocks, from what is read off lists of words.
-use Rattle.std.proofs.Common.{◌≡◌, ℕ, zero, suc, ◌^◌, ◌<◌, ◌≤◌, true, ltb, leb, List, [], ◌∷◌, length, get_or, Option, Some, None, MatchOption, ok_or, Ok, Err, sym, ap, ◌∙◌, subst, one-mul, arith}
-use Rattle.std.proofs.lemmas.Bool.{and_parts, le-leb, lt-ltb, le-ltb, cond-true, cond-false}
+use Rattle.std.proofs.Common.{◌≡◌, ℕ, zero, suc, ◌^◌, ◌<◌, ◌≤◌, true, ltb, List, [], ◌∷◌, length, get_or, Option, Some, None, MatchOption, ok_or, Ok, Err, sym, ap, ◌∙◌, subst, one-mul, arith}
+use Rattle.std.proofs.lemmas.Bool.{and_parts, lt-ltb, le-ltb, cond-true, cond-false}
 use Rattle.levels.specs.Arithmetic.{Arithmetic, two}
-use Rattle.levels.specs.Words.{legal}
 use Rattle.levels.specs.Space.{AllWords}
 use Rattle.levels.specs.Generated.{generated}
 use Rattle.levels.proofs.Digits.{word_legal}
 use Rattle.preferences.specs.Relation.{all_legal}
-use Rattle.aliasing.specs.Runs.{Run, block_number, runs_below, runs_upto}
+use Rattle.aliasing.specs.Runs.{Run, runs_below, runs_upto}
 use Rattle.aliasing.proofs.Listed.{upto_length, run_entry}
-use Rattle.contents.specs.declared.refusal.Refusal.TheVariants.{Illegal, Limit, Last}
-use Rattle.contents.specs.Content.{Content}
-use Rattle.plan.specs.Answers.{block_of, entry}
+use Rattle.contents.specs.declared.refusal.Refusal.TheVariants.{Last}
+use Rattle.plan.specs.Answers.{entry}
 
 -- an entry that is there, and one past the last
 pub entry_at : (xs : List ℕ) (m x : ℕ) → m < length xs → get_or xs m 0 ≡ x → Ok x ≡ entry xs m
@@ -41,12 +39,3 @@ pub all_words : (A : Arithmetic) (n : ℕ) (ws : List ℕ) → all_legal A n ws 
 all_words A n [] t i l = absurd (omega arith)
 all_words A n (w ∷ ws) t zero l = (and_parts _ _ t).0
 all_words A n (w ∷ ws) t (suc i) l = all_words A n ws (and_parts _ _ t).1 i (omega arith)
-
--- the block number where every check passes
-pub block_found : (run : ℕ) (ws : List ℕ) (p : Content) (r : ℕ) → legal two p.factors run ≡ true → length ws ≤ 16 → all_legal two p.factors ws ≡ true → r ≡ block_number p.factors run ws → Ok r ≡ block_of run ws p
-block_found run ws p r a l w e =
-    let n = p.factors in
-    ap Ok e
-    ∙ sym (cond-true (all_legal two n ws) (Ok (block_number n run ws)) (Err Illegal) w)
-    ∙ sym (cond-true (leb (length ws) 16) _ (Err Limit) (le-leb (length ws) 16 l))
-    ∙ sym (cond-true (legal two n run) _ (Err Illegal) a)

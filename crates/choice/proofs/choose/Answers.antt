@@ -13,10 +13,6 @@ loop-init g c = (
   ap length c.new-chosen.ensures,
 )
 
--- the rows stay in echelon form
-pub best_fresh-requires : goal.best_fresh-requires
-best_fresh-requires g c = rw c.new-judge.ensures.factors c.loop.invariant.0.echelon
-
 -- one more word
 pub loop-preserved : goal.loop-preserved
 loop-preserved g c =

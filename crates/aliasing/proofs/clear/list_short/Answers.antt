@@ -4,7 +4,7 @@ use Rattle.bounded.specs.Items.{items_of}
 use Rattle.levels.specs.Rows.{basis_rows}
 use Rattle.aliasing.specs.Clear.{letter, pair, pairs, pairs_with, pairs_from}
 use Rattle.aliasing.specs.Short.{letters_from}
-use Rattle.aliasing.proofs.Shorts.{Lists, list_more, letters_next, pairs_with_next, pairs_from_next}
+use Rattle.aliasing.proofs.Shorts.{Lists, list_more, letters_next, pairs_with_next}
 use Rattle.aliasing.proofs.clear.list_short.Goals as goal
 
 -- one letter more
@@ -17,14 +17,6 @@ loop-i-preserved c =
     list_more n c.requires rows (items_of c.loop-i.short) (items_of c.push.new.self) c.new.result (1 * 2 ^ i % 2 ^ 64) (letter i) (letters_from (i + 1) (n - (i + 1)) ++ pairs n)
     c.new.ensures.word value c.new.ensures.least c.push.ensures
     (subst (λ xs. Lists n rows (items_of c.loop-i.short) (xs ++ pairs n)) (letters_next i n c.loop-i-test.true) c.loop-i.invariant)
-
--- the pairs with the next factor are the first of what is left
-pub loop-j-init : goal.loop-j-init
-loop-j-init c =
-    let i = c.loop-i-2.i in (
-      subst (Lists c.args.n (basis_rows c.args.basis.now) (items_of c.loop-i-2.short)) (pairs_from_next i c.args.n c.loop-i-2-test.true) c.loop-i-2.invariant,
-      omega (arith, c.loop-i-2-test.true),
-    )
 
 -- one pair more
 pub loop-j-preserved : goal.loop-j-preserved

@@ -1,8 +1,7 @@
 use Rattle.std.proofs.Common.{◌≡◌, ℕ, ◌*◌, ◌%◌, ◌+◌, ◌-◌, ◌^◌, ◌<◌, ◌≤◌, cond, sym, ap, ◌∙◌, subst, inl, inr, arith}
 use native.Mathlib.Nat.{zero-mod}
-use mir.Facts.{Fits-below}
 use Rattle.std.proofs.lemmas.Nat.{one_shl}
-use Rattle.aliasing.proofs.Chosen.{ChosenFrom, choose, chosen_all, choice_first, empty_most, empty_some, total}
+use Rattle.aliasing.proofs.Chosen.{ChosenFrom, choose, chosen_all, choice_first, empty_most, total}
 use Rattle.aliasing.proofs.runs.Table.run.Goals as goal
 use Rattle.aliasing.proofs.runs.Table.run.Goals.{then-row-eq0, else-row-eq0}
 
@@ -19,17 +18,9 @@ loop-p-init c = record {
   choice = λ ws low high r. choice_first c.args.self.now.factors low high ws c.args.self.now.rows r c.args.m (subst (λ k. c.args.m < 2 ^ k) c.free_factors-digits.ensures.count (omega (arith, power c.free_factors-digits.result c.free_factors-digits.ensures.few, c.if-m-digits.false)));
 }
 
--- an empty place is counted among the digits that are left
-pub overflow_sub-digits : goal.overflow_sub-digits
-overflow_sub-digits c = omega (arith, c.loop-p.invariant.left, empty_some c.args.self.now.rows c.loop-p.p c.loop-p-test.true (rw c.from.ensures at c.if-row-eq0.true))
-
 -- at most 32 digits are left
 few_digits : (c : goal.Then-row-eq0) → c.loop-p.digits ≤ 32
 few_digits c = omega (arith, c.loop-p.invariant.left, empty_most c.args.self.now.rows c.loop-p.p, c.loop-p.auto.p, c.args.self.now.few)
-
--- their number fits
-pub overflow_cast-one : goal.overflow_cast-one
-overflow_cast-one c = Fits-below {n = 32} tt (omega (arith, few_digits c))
 
 -- and is below the bits of a code
 pub overflow_shr-one : goal.overflow_shr-one

@@ -1,8 +1,6 @@
-use Rattle.std.proofs.Common.{◌≡◌, sym, subst, arith}
+use Rattle.std.proofs.Common.{sym, subst, arith}
 use Rattle.levels.specs.Space.{Word}
 use Rattle.levels.proofs.Leaves.{multiple_legal}
-use Rattle.preferences.specs.Relation.{judged}
-use Rattle.choice.specs.Search.{Below, LedBy, Top}
 use Rattle.choice.proofs.Sums.{led_first, led_more}
 use Rattle.choice.proofs.judge.Judge.best_led.Goals as goal
 
@@ -22,12 +20,3 @@ loop-level-preserved g c =
     led_more g.L.Levels.model g.met.L.Levels.lawful (g.P.Preference.good c.args.self.now.preference.now) (g.met.P.Preference.lawful c.args.self.now.preference.now) c.args.self.now.factors c.args.self.now.base.now c.args.rows.now c.args.lead c.requires
     c.loop-level.level c.loop-level.best c.product-start.result c.best_of_coset-other.result c.better-best.result
     (omega (arith, c.loop-level.auto.level)) c.product-start.ensures c.better-best.ensures c.loop-level.invariant c.best_of_coset-other.ensures
-
--- all levels
-pub returns : goal.returns
-returns g c =
-    let A = g.L.Levels.model in
-    let end = g.met.L.Levels.lawful.field.two_levels in
-    let all : c.loop-level.level ≡ A.s
-    = omega (arith, c.loop-level-test.false, c.loop-level.auto.level-end (omega (arith, c.LEVELS-level-end.ensures, g.met.L.Levels.levels, end)), c.LEVELS-level-end.ensures, g.met.L.Levels.levels) in
-    subst (λ k. Top (judged A (g.P.Preference.good c.args.self.now.preference.now) c.args.self.now.factors c.args.self.now.base.now) (Below k (LedBy A c.args.self.now.factors c.args.rows.now c.args.lead)) c.loop-level.best) all c.loop-level.invariant

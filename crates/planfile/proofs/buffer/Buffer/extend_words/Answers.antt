@@ -1,6 +1,6 @@
 -- Each word stands behind those before it, in 8 bytes.
 use Rattle.std.proofs.Common.{◌++◌, length, get_or, take, sym, ap, ◌∙◌, arith}
-use Rattle.std.proofs.lemmas.List.{append_assoc, length-append, length-take, take_all}
+use Rattle.std.proofs.lemmas.List.{append_assoc, length-append, length-take}
 use Rattle.planfile.specs.File.{bytes, word_bytes}
 use Rattle.planfile.specs.Written.{written}
 use Rattle.planfile.proofs.Coding.{eight_bytes, length_word_bytes, word_bytes_more}
@@ -30,9 +30,3 @@ loop-word-preserved c =
     ∙ ap (λ zs. zs ++ bytes 8 (get_or ws i 0)) c.loop-word.invariant
     ∙ append_assoc start (word_bytes (take i ws)) (bytes 8 (get_or ws i 0))
     ∙ ap (λ zs. start ++ zs) (sym (word_bytes_more ws i c.loop-word-test.true))
-
-pub returns : goal.returns
-returns c =
-    let i = c.loop-word.word-index in
-    let ws = c.args.words.now in
-    c.loop-word.invariant ∙ ap (λ zs. written c.args.self.now ++ word_bytes zs) (take_all i ws (omega arith))
