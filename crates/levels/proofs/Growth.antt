@@ -132,14 +132,6 @@ module _ (A : Arithmetic) (L : Lawful A) (n : ℕ) where
       | inr g ↦ rw (take_at rows (r ∷ []) 32 (omega arith)) (admitted_known rows w (λ e. absurd (never-full g e)))
     ]
 
-  -- no word leaves the rows as they are
-  pub extended_none : (rows : List ℕ) → Extended A n rows [] rows
-  extended_none rows = record {
-    grows = ([], sym (append-nil rows));
-    echelon = λ e. e;
-    same = λ e x. rw (append-nil rows) ((λ G. G), (λ G. G));
-  }
-
   -- some words, and one more
   pub extended_more : (before words mid : List ℕ) (w : ℕ) (after : List ℕ) → Extended A n before words mid → Extended A n mid (w ∷ []) after →
       Extended A n before (words ++ w ∷ []) after

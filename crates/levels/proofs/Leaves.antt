@@ -1,8 +1,8 @@
 -- Lists of words plus multiples of words, and counts of words by length.
-use Rattle.std.proofs.Common.{◌≡◌, ℕ, zero, suc, ◌+◌, ◌*◌, ◌%◌, ◌^◌, ◌<◌, ◌≤◌, Bool, false, cond, eqb, List, [], ◌∷◌, ◌++◌, map, length, get_or, take, drop, set, replicate, sym, refl, ap, ◌∙◌, subst, inl, inr, add_assoc, mod-lt, mod-eq_of_lt, mul-le-mul_left, zero-add, mul_comm, mul-suc, add-one, arith}
+use Rattle.std.proofs.Common.{◌≡◌, ℕ, suc, ◌+◌, ◌*◌, ◌%◌, ◌^◌, ◌<◌, ◌≤◌, Bool, false, cond, eqb, List, [], ◌∷◌, ◌++◌, map, length, get_or, take, drop, set, replicate, sym, refl, ap, ◌∙◌, subst, inl, inr, add_assoc, mod-lt, mod-eq_of_lt, mul-le-mul_left, zero-add, mul_comm, mul-suc, add-one, arith}
 use native.Mathlib.Nat.{mod-add-mod}
 use Rattle.std.proofs.lemmas.Bool.{cases_eq, cond-true, cond-false, eq-eqb, ne_eqb}
-use Rattle.std.proofs.lemmas.List.{get_or-set_same, get_or-set_other, get_or-replicate, get_or_append_left, append-nil, map-append, length-map, length-append, length-take, append_assoc, map_more, take_all}
+use Rattle.std.proofs.lemmas.List.{get_or-set_same, get_or-set_other, get_or-replicate, map-append, length-map, length-append, length-take, append_assoc, map_more, take_all}
 use Rattle.levels.specs.Arithmetic.{Arithmetic, Lawful}
 use Rattle.levels.specs.Words.{legal, word_sum, word_multiple, word_length, code_sum}
 use Rattle.levels.specs.Space.{Word, AllWords}
@@ -132,34 +132,16 @@ module _ (A : Arithmetic) (L : Lawful A) (n : ℕ) where
       subst (Word A n) (sym q.2)
       ((vector_space A L n r.low r.high).sum_word (word_multiple A n p.0 w) q.0 (multiple_legal p.0 w q.0 wy) wy)
 
-  -- words plus multiples of w begin with the words
-  begins : (k w : ℕ) (xs : List ℕ) → AllWords A n xs → (more : List ℕ) × (multiples_below A n (suc k) w xs ≡ xs ++ more)
-  begins zero w xs h = ([], zero_multiples w xs h ∙ sym (append-nil xs))
-  begins (suc k) w xs h =
-      let r = begins k w xs h in
-      let ys = map (word_sum A n (word_multiple A n (suc k) w)) xs in
-      (r.0 ++ ys, ap (λ zs. zs ++ ys) r.1 ∙ append_assoc xs r.0 ys)
-
-  -- so each of the words stands at its place there
-  pub first_sum : (k w i : ℕ) (xs sums ys : List ℕ) → 0 < k → AllWords A n xs → sums ≡ multiples_below A n k w xs ++ ys → i < length xs →
-      (i < length sums) × (get_or sums i 0 ≡ get_or xs i 0)
-  first_sum zero w i xs sums ys p h e l = absurd (omega arith)
-  first_sum (suc k) w i xs sums ys p h e l =
-      let r = begins k w xs h in
-      let whole : sums ≡ xs ++ (r.0 ++ ys) = e ∙ ap (λ zs. zs ++ ys) r.1 ∙ append_assoc xs r.0 ys in
-      (omega (arith, ap length whole, length-append xs (r.0 ++ ys)), ap (λ zs. get_or zs i 0) whole ∙ get_or_append_left xs (r.0 ++ ys) 0 i l)
-
   -- words plus multiples of w by the levels below k, then plus its multiple m by k, and one more of these, for which there is room
-  pub one_sum_more : (k w m sum i : ℕ) (xs sums : List ℕ) → 0 < k → k < A.s → length xs * A.s ≤ 64 → AllWords A n xs → m ≡ word_multiple A n k w → i < length xs →
-      sums ≡ multiples_below A n k w xs ++ map (word_sum A n m) (take i xs) → sum ≡ code_sum A m (get_or sums i 0) →
+  pub one_sum_more : (k w m sum i : ℕ) (xs sums : List ℕ) → k < A.s → length xs * A.s ≤ 64 → AllWords A n xs → m ≡ word_multiple A n k w → i < length xs →
+      sums ≡ multiples_below A n k w xs ++ map (word_sum A n m) (take i xs) → sum ≡ code_sum A m (get_or xs i 0) →
       take 64 (sums ++ sum ∷ []) ≡ multiples_below A n k w xs ++ map (word_sum A n m) (take (i + 1) xs)
-  one_sum_more k w m sum i xs sums pk lk room words em li e ex =
+  one_sum_more k w m sum i xs sums lk room words em li e ex =
       let x = get_or xs i 0 in
       let start = multiples_below A n k w xs in
-      let first = first_sum k w i xs sums (map (word_sum A n m) (take i xs)) pk words e li in
       let wx : Word A n x = words i li in
       let wm : Word A n m = subst (Word A n) (sym em) (multiple_legal k w x wx) in
-      let value : sum ≡ word_sum A n m x = ex ∙ ap (code_sum A m) first.1 ∙ sym (sum_code A L n m x wm wx) in
+      let value : sum ≡ word_sum A n m x = ex ∙ sym (sum_code A L n m x wm wx) in
       let more = start ++ map (word_sum A n m) (take (i + 1) xs) in
       let one : sums ++ sum ∷ [] ≡ more =
       ap (λ ys. ys ++ sum ∷ []) e

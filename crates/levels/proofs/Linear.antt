@@ -421,11 +421,6 @@ module _ (S : Space) where
       whole : take i us ++ get_or us i 0 ∷ drop (suc i) us ≡ us
       whole = ap (◌++◌ (take i us)) (sym (drop-cons us i 0 (omega arith))) ∙ take-append-drop i us
 
-  -- a rest of an independent list is independent
-  pub ind_right : (us vs : List ℕ) → Ind (us ++ vs) → Ind vs
-  ind_right [] vs ind = ind
-  ind_right (u ∷ us) vs ind = ind_right us vs (ind_tail u (us ++ vs) ind)
-
   -- a front of the list is independent over ps too
   over_left : (us vs ps : List ℕ) → IndOver ps (us ++ vs) → IndOver ps us
   over_left [] vs ps ind = tt

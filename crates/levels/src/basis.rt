@@ -52,6 +52,7 @@ impl Basis {
     }
 
     // What is left of a word by multiples of the rows: code 0 exactly if they generate it.
+    // Echelon rows and a legal word are premises: a basis that kept them would be of one number of factors, and asks more of callers.
     pub fn reduce<L: Levels>(&self, n: u8, word: u64) -> u64
         ensures { Echelon L.Levels.model n (basis_rows self.now) → Word L.Levels.model n word → LeastAlias L.Levels.model n (basis_rows self.now) word result }
     {
@@ -86,6 +87,7 @@ impl Basis {
 }
 
 // The smallest code among a word plus the multiples of a row.
+// Row, word and factors stand apart here and in members.rt: a type of them would be made for each row and taken apart at once.
 fn least<L: Levels>(n: u8, row: u64, word: u64) -> u64
     ensures { Word L.Levels.model n row → Word L.Levels.model n word → LeastMultiple L.Levels.model n L.Levels.model.s row word result }
 {

@@ -1,6 +1,5 @@
 // The arithmetic of levels, words, and what a list of words generates.
 // n and the words stay two parameters here: the struct that holds both is the plan, in a crate above.
-// as: From has neither usize to u64 nor a narrower number.
 #![tactic(auto)]
 
 pub mod arithmetic;

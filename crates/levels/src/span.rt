@@ -1,5 +1,5 @@
 // The words that a list generates, gone through with one sum a word.
-ghost use Rattle.std.specs.Prelude.{◌≡◌, ℕ, ◌*◌, ◌^◌, ◌<◌, ◌≤◌, false, ◌&&◌, ◌++◌, map, length, drop, slice_index};
+ghost use Rattle.std.specs.Prelude.{◌≡◌, ℕ, ◌*◌, ◌^◌, ◌<◌, ◌≤◌, true, false, ◌&&◌, ◌⊎◌, ◌++◌, map, length, drop, slice_index};
 ghost use Rattle.bounded.specs.Items.{items_of};
 ghost use Rattle.levels.specs.Space.{AllWords, Word};
 ghost use Rattle.levels.specs.Words.{legal, word_sum};
@@ -59,6 +59,8 @@ pub fn tally_both<L: Levels>(
 pub fn list_sums<L: Levels>(n: u8, words: &[u64]) -> (&[u64], Sums)
     ensures words { result.0.now ++ drop (length result.0.now) words.now ≡ words.now }
     ensures few { length (items_of result.1) ≤ 64 }
+    ensures full { legal L.Levels.model n 0 ≡ true → (length result.0.now ≡ 0) ⊎ (64 < length (items_of result.1) * L.Levels.model.s) }
+    ensures none { legal L.Levels.model n 0 ≡ false → result.0.now ≡ words.now }
     ensures sums { items_of result.1 ≡ combinations L.Levels.model n (drop (length result.0.now) words.now) }
 {
     let mut sums = Bounded::new(0);
@@ -76,24 +78,23 @@ pub fn list_sums<L: Levels>(n: u8, words: &[u64]) -> (&[u64], Sums)
     (before, sums)
 }
 
-// The sums of a list, again with each further multiple of a word.
+// The sums of a list, again with each further multiple of a word. It asks for legal sums: see `count`.
 fn spread<L: Levels>(n: u8, word: u64, sums: &mut Sums)
     requires room { length (items_of sums.old) * L.Levels.model.s ≤ 64 }
     requires legal { AllWords L.Levels.model n (items_of sums.old) }
     ensures { items_of sums.new ≡ with_multiples L.Levels.model n word (items_of sums.old) }
 {
-    let width = sums.len();
+    let front = *sums;
     for level in 1..L::LEVELS {
         let multiple = L::product(n, level, word);
-        // By place: a copy of the list takes about 1.3 times as long.
-        for i in 0..width {
-            let sum = sums.as_slice()[i];
-            sums.push(L::add(multiple, sum));
+        for sum in front.as_slice() {
+            sums.push(L::add(multiple, *sum));
         }
     }
 }
 
-// Counts the sums of a start, the multiples of words and a leaf.
+// Counts the sums of a start, the multiples of words and a leaf. A type for legal words, or for words, leaves and start
+// together, would carry the factors too, and the contract would ask that these are n instead.
 fn count<L: Levels>(n: u8, words: &[u64], leaves: &[u64], start: u64, counts: &mut Tally)
     requires start { Word L.Levels.model n start }
     requires legal { AllWords L.Levels.model n leaves.now }

@@ -58,6 +58,7 @@ impl Levels for ThreeLevels {
     }
 
     fn length(word: u64) -> u8 {
+        // as: From has no such pair, and TryFrom would bring an error that cannot come.
         ((word | word >> 1) & LOW).count_ones() as u8
     }
 }

@@ -9,6 +9,6 @@ abbrev pub invariant-loop-level : goal.invariant-loop-level
 invariant-loop-level g l = items_of l.sums ≡ multiples_below g.L.Levels.model l.n l.level l.word (items_of l.fn.sums)
 
 -- behind them stand the sums of the multiple and the list so far
-abbrev pub invariant-loop-i : goal.invariant-loop-i
-invariant-loop-i g l =
-    items_of l.sums ≡ multiples_below g.L.Levels.model l.n l.level l.word (items_of l.fn.sums) ++ map (word_sum g.L.Levels.model l.n l.multiple) (take l.i (items_of l.fn.sums))
+abbrev pub invariant-loop-sum : goal.invariant-loop-sum
+invariant-loop-sum g l =
+    items_of l.sums ≡ multiples_below g.L.Levels.model l.n l.level l.word (items_of l.fn.sums) ++ map (word_sum g.L.Levels.model l.n l.multiple) (take l.sum-index (items_of l.fn.sums))
