@@ -19,7 +19,7 @@ use Rattle.levels.proofs.Leaves.{multiple_legal, sum_legal, code_legal}
 use Rattle.levels.proofs.Reduced.{space_at}
 use Rattle.choice.specs.Choice.{best}
 use Rattle.preferences.specs.Relation.{Relation, PreferenceLaws, judged}
-use Rattle.choice.specs.Search.{better_of, Below, Coset, Leaf, Spread, LedBy, Led, LedAt, Top, TopOf}
+use Rattle.choice.specs.Search.{Better, Below, Coset, Leaf, Spread, LedBy, Led, LedAt, Top, TopOf}
 use Rattle.choice.proofs.Tops.{top_more, top_of_more, top_one, top_same}
 use Rattle.choice.proofs.Greedy.{Order, fresh, next_is, next_none}
 
@@ -182,14 +182,13 @@ module _ (A : Arithmetic) (L : Lawful A) (n : ℕ) (leaves : List ℕ) (words : 
 
 module _ (A : Arithmetic) (L : Lawful A) (good : Relation) (laws : PreferenceLaws A good) (n : ℕ) (base : List ℕ) (leaves : List ℕ) (start : ℕ) (word : Word A n start) (words : AllWords A n leaves) where
   -- the sums by one level more
-  pub spread_more : (level v next : ℕ) → next ≡ word_sum A n start (word_multiple A n level v) → (rest : List ℕ) (a b r : ℕ) → r ≡ better_of A good n base a b →
+  pub spread_more : (level v next : ℕ) → next ≡ word_sum A n start (word_multiple A n level v) → (rest : List ℕ) (a b r : ℕ) → Better A good n base a b r →
       Top (judged A good n base) (Below level (λ c. Spread A n rest leaves (word_sum A n start (word_multiple A n c v)))) a → Top (judged A good n base) (Spread A n rest leaves next) b →
       Top (judged A good n base) (Below (level + 1) (λ c. Spread A n rest leaves (word_sum A n start (word_multiple A n c v)))) r
   spread_more level v next is rest a b r e ta tb =
-      subst (Top (judged A good n base) (Below (level + 1) (λ c. Spread A n rest leaves (word_sum A n start (word_multiple A n c v))))) (sym e)
-      (top_more A good laws n base level (λ c. Spread A n rest leaves (word_sum A n start (word_multiple A n c v)))
+      top_more A good laws n base level (λ c. Spread A n rest leaves (word_sum A n start (word_multiple A n c v)))
       (λ c y. spread_word A L n leaves words rest (word_sum A n start (word_multiple A n c v)) y (sum_legal A L n c v start word))
-      a b ta (subst (λ x. Top (judged A good n base) (Spread A n rest leaves x) b) is tb))
+      a b r e ta (subst (λ x. Top (judged A good n base) (Spread A n rest leaves x) b) is tb)
 
   -- the sum with one leaf alone
   pub leaf_alone : (k sum : ℕ) → k < length leaves → sum ≡ code_sum A start (get_or leaves k 0) → Top (judged A good n base) (Leaf A n leaves start k) sum
@@ -198,10 +197,9 @@ module _ (A : Arithmetic) (L : Lawful A) (good : Relation) (laws : PreferenceLaw
       subst (λ v. Top (judged A good n base) (λ y. y ≡ v) sum) is (top_one A good laws n base sum (leaf_word A L n leaves words start word k sum is))
 
   -- the sums with one leaf more
-  pub leaf_more : (k a sum r : ℕ) → k < length leaves → sum ≡ code_sum A start (get_or leaves k 0) → r ≡ better_of A good n base a sum → Top (judged A good n base) (Below k (Leaf A n leaves start)) a → Top (judged A good n base) (Below (k + 1) (Leaf A n leaves start)) r
+  pub leaf_more : (k a sum r : ℕ) → k < length leaves → sum ≡ code_sum A start (get_or leaves k 0) → Better A good n base a sum r → Top (judged A good n base) (Below k (Leaf A n leaves start)) a → Top (judged A good n base) (Below (k + 1) (Leaf A n leaves start)) r
   leaf_more k a sum r l e b t =
-      subst (Top (judged A good n base) (Below (k + 1) (Leaf A n leaves start))) (sym b)
-      (top_more A good laws n base k (Leaf A n leaves start) (leaf_word A L n leaves words start word) a sum t (leaf_alone k sum l e))
+      top_more A good laws n base k (Leaf A n leaves start) (leaf_word A L n leaves words start word) a sum r b t (leaf_alone k sum l e)
 
 module _ (A : Arithmetic) (L : Lawful A) (good : Relation) (laws : PreferenceLaws A good) (n : ℕ) (base : List ℕ) (rows : List ℕ) (lead : ℕ) (word : Word A n lead) where
   -- a word that is led is a word
@@ -219,17 +217,16 @@ module _ (A : Arithmetic) (L : Lawful A) (good : Relation) (laws : PreferenceLaw
       subst (λ x. Coset A n rows x y) (ap (λ c. word_multiple A n c lead) e ∙ one) h.2.1) t
 
   -- and by one level more
-  pub led_more : (k a start b r : ℕ) → 0 < k → start ≡ word_multiple A n k lead → r ≡ better_of A good n base a b → Top (judged A good n base) (Below k (LedBy A n rows lead)) a →
+  pub led_more : (k a start b r : ℕ) → 0 < k → start ≡ word_multiple A n k lead → Better A good n base a b r → Top (judged A good n base) (Below k (LedBy A n rows lead)) a →
       Top (judged A good n base) (Coset A n rows start) b → Top (judged A good n base) (Below (k + 1) (LedBy A n rows lead)) r
   led_more k a start b r some e is ta tb =
-      subst (Top (judged A good n base) (Below (k + 1) (LedBy A n rows lead))) (sym is)
-      (top_more A good laws n base k (LedBy A n rows lead) led_by_word a b ta
+      top_more A good laws n base k (LedBy A n rows lead) led_by_word a b r is ta
       (top_same (judged A good n base) (Coset A n rows start) (LedBy A n rows lead k) b
-      (λ y h. (some, subst (λ x. Coset A n rows x y) e h)) (λ y h. subst (λ x. Coset A n rows x y) (sym e) h.1) tb))
+      (λ y h. (some, subst (λ x. Coset A n rows x y) e h)) (λ y h. subst (λ x. Coset A n rows x y) (sym e) h.1) tb)
 
 module _ (A : Arithmetic) (L : Lawful A) (good : Relation) (laws : PreferenceLaws A good) (n : ℕ) (base : List ℕ) (rows : List ℕ) (k : ℕ) where
   -- the words led by one row more
-  pub led_row : (i : ℕ) → k ≤ i → Word A n (get_or rows i 0) → (a : Option ℕ) (b r : ℕ) → MatchOption a (r ≡ b) (λ x. r ≡ better_of A good n base x b) →
+  pub led_row : (i : ℕ) → k ≤ i → Word A n (get_or rows i 0) → (a : Option ℕ) (b r : ℕ) → MatchOption a (r ≡ b) (λ x. Better A good n base x b r) →
       TopOf (judged A good n base) (Below i (LedAt A n rows k)) a → Top (judged A good n base) (Led A n (take i rows) (get_or rows i 0)) b →
       Top (judged A good n base) (Below (i + 1) (LedAt A n rows k)) r
   led_row i l word a b r is ta tb =

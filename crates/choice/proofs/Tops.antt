@@ -8,7 +8,7 @@ use Rattle.levels.specs.Space.{Word}
 use Rattle.preferences.specs.Relation.{Relation, PreferenceLaws, fair, judged}
 use Rattle.preferences.specs.Verdicts.{verdict_of}
 use Rattle.preferences.specs.declared.preference.Verdict.TheVariants.{Equal}
-use Rattle.choice.specs.Search.{by_verdict, better_of, Below, Top, TopOf}
+use Rattle.choice.specs.Search.{Better, by_verdict, better_of, Below, Top, TopOf}
 use Rattle.choice.proofs.Greedy.{Order, judged_order}
 
 -- what a verdict is from: where the preference does not judge, any two words are equally good
@@ -103,18 +103,19 @@ module _ (A : Arithmetic) (good : Relation) (laws : PreferenceLaws A good) (n : 
   ]
 
   -- one level more
-  pub top_more : (k : ℕ) (Of : ℕ → ℕ → Type 0) → ((c : ℕ) → Words (Of c)) → (a b : ℕ) → Top at_least (Below k Of) a → Top at_least (Of k) b → Top at_least (Below (k + 1) Of) (better_of A good n base a b)
-  top_more k Of words a b ta tb =
-      top_same at_least (λ y. Below k Of y ⊎ Of k y) (Below (k + 1) Of) (better_of A good n base a b) (below_join k Of) (below_split k Of)
-      (top_both (Below k Of) (Of k) (λ y m. words m.0 y m.2) (words k) a b ta tb)
+  pub top_more : (k : ℕ) (Of : ℕ → ℕ → Type 0) → ((c : ℕ) → Words (Of c)) → (a b r : ℕ) → Better A good n base a b r → Top at_least (Below k Of) a → Top at_least (Of k) b → Top at_least (Below (k + 1) Of) r
+  top_more k Of words a b r better ta tb =
+      subst (Top at_least (Below (k + 1) Of)) (sym (better (words ta.among.0 a ta.among.2) (words k b tb.among)))
+      (top_same at_least (λ y. Below k Of y ⊎ Of k y) (Below (k + 1) Of) (better_of A good n base a b) (below_join k Of) (below_split k Of)
+      (top_both (Below k Of) (Of k) (λ y m. words m.0 y m.2) (words k) a b ta tb))
 
   -- one level more, where there may be no word before
-  pub top_of_more : (k : ℕ) (Of : ℕ → ℕ → Type 0) → ((c : ℕ) → Words (Of c)) → (a : Option ℕ) (b r : ℕ) → MatchOption a (r ≡ b) (λ x. r ≡ better_of A good n base x b) →
+  pub top_of_more : (k : ℕ) (Of : ℕ → ℕ → Type 0) → ((c : ℕ) → Words (Of c)) → (a : Option ℕ) (b r : ℕ) → MatchOption a (r ≡ b) (λ x. Better A good n base x b r) →
       TopOf at_least (Below k Of) a → Top at_least (Of k) b → Top at_least (Below (k + 1) Of) r
   top_of_more k Of words None b r e ta tb = subst (Top at_least (Below (k + 1) Of)) (sym e)
       (top_same at_least (Of k) (Below (k + 1) Of) b (λ y p. below_join k Of y (inr p))
       (λ y m. elim (below_split k Of y m) [ inl p ↦ absurd (ta y p) | inr p ↦ p ]) tb)
-  top_of_more k Of words (Some a) b r e ta tb = subst (Top at_least (Below (k + 1) Of)) (sym e) (top_more k Of words a b ta tb)
+  top_of_more k Of words (Some a) b r e ta tb = top_more k Of words a b r e ta tb
 
   -- the best of one word is that word
   pub top_one : (w : ℕ) → Word A n w → Top at_least (λ y. y ≡ w) w

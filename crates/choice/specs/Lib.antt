@@ -1,3 +1,4 @@
 pub mod Choice
 pub mod Chosen
+pub mod Judged
 pub mod Search

@@ -2,11 +2,11 @@
 use Rattle.std.specs.Prelude.{◌≡◌, ◌≢◌, ℕ, ◌<◌, ◌≤◌, min, Bool, true, List, [], ◌∷◌, length, take, Some, None, Option, slice_index}
 use Rattle.levels.specs.Arithmetic.{Arithmetic}
 use Rattle.levels.specs.Words.{word_sum, word_multiple}
-use Rattle.preferences.specs.Relation.{Relation, judged}
+use Rattle.levels.specs.Space.{Word}
+use Rattle.preferences.specs.Relation.{Relation}
 use Rattle.preferences.specs.Verdicts.{verdict}
 use Rattle.preferences.specs.declared.preference.Verdict.{Verdict}
 use Rattle.preferences.specs.declared.preference.Verdict.TheVariants.{First, Second, Equal}
-use Rattle.choice.specs.declared.judge.Judge.{Judge}
 
 -- the word that a verdict is for, the smaller code among equals
 abbrev pub by_verdict : Verdict → ℕ → ℕ → ℕ
@@ -18,9 +18,9 @@ by_verdict Equal a b = min a b
 unfoldable pub better_of : Arithmetic → Relation → ℕ → List ℕ → ℕ → ℕ → ℕ
 better_of A good n base a b = by_verdict (verdict A good n base a b) a b
 
--- the order by which a judge judges
-abbrev pub order_of : {L P : Type 0} → Arithmetic → (P → Relation) → Judge L P → ℕ → ℕ → Bool
-order_of A good judge = judged A (good judge.preference.now) judge.factors judge.base.now
+-- a word for which a judge decides, of two legal words
+abbrev pub Better : Arithmetic → Relation → ℕ → List ℕ → ℕ → ℕ → ℕ → Type 0
+Better A good n base a b r = Word A n a → Word A n b → r ≡ better_of A good n base a b
 
 -- w is one of the words by a level below k
 abbrev pub Below : ℕ → (ℕ → ℕ → Type 0) → ℕ → Type 0

@@ -4,24 +4,30 @@ ghost use Rattle.levels.specs.Space.{AllWords, Word};
 ghost use Rattle.levels.specs.Generated.{generated};
 ghost use Rattle.levels.specs.Basis.{Echelon};
 ghost use Rattle.levels.specs.Rows.{basis_rows};
+ghost use Rattle.preferences.specs.Relation.{fair};
 ghost use Rattle.choice.specs.Choice.{beyond, best};
-ghost use Rattle.choice.specs.Search.{better_of, order_of, Coset, Led, Spread, Top};
+ghost use Rattle.choice.specs.Search.{Better, Coset, Led, Spread, Top};
 
 use levels::span::list_sums;
 use levels::{Basis, Levels};
-use preferences::{Preference, Verdict};
+use preferences::{Preference, Verdict, fair};
 use std::marker::PhantomData;
 
 // Judges words of so many factors by a preference, over a base list.
 #[derive(Drop)]
-pub(crate) struct Judge<'a, L, P> {
+pub(crate) struct Judge<'a, L: Levels, P> {
     preference: &'a P,
     factors: u8,
     base: &'a [u64],
+    // whether preferences judge by the base list
+    able: bool,
     levels: PhantomData<L>,
+    ghost aware: { able ≡ fair L.Levels.model factors base.now },
 }
 
 impl<'a, L: Levels, P: Preference<L>> Judge<'a, L, P> {
+    ghost use Rattle.choice.specs.Judged.{order_of};
+
     // By a preference, for so many factors and a base list.
     pub(crate) fn new(preference: &'a P, factors: u8, base: &'a [u64]) -> Judge<'a, L, P>
         ensures preference { result.preference.now ≡ preference.now }
@@ -32,12 +38,13 @@ impl<'a, L: Levels, P: Preference<L>> Judge<'a, L, P> {
             preference,
             factors,
             base,
+            able: fair::<L>(factors, base),
             levels: PhantomData,
         }
     }
 
     // The best word that a basis and further words generate together, and the basis alone does not. Each such word is led
-    // by one of the rows that the further words add.
+    // by one of the rows that the further words add. It asks for rows in echelon form, as `Basis::reduce` does.
     pub(crate) fn best_fresh(&self, known: &Basis, further: &[u64]) -> Option<u64>
         requires { Echelon L.Levels.model self.now.factors (basis_rows known.now) }
         ensures { result ≡ best (order_of L.Levels.model P.Preference.good self.now) (beyond (generated L.Levels.model self.now.factors (basis_rows known.now ++ further.now)) (generated L.Levels.model self.now.factors (basis_rows known.now))) }
@@ -48,7 +55,7 @@ impl<'a, L: Levels, P: Preference<L>> Judge<'a, L, P> {
         let mut best = None;
         for (i, lead) in rows.iter().enumerate().skip(known.len()) {
             let led = self.best_led(&rows[..i], *lead);
-            // No map_or: a closure that borrows the judge would need a contract longer than the match.
+            // No map_or: its closure would need a contract of its own, since what `better` promises is no equation.
             best = Some(match best {
                 Some(best) => self.better(best, led),
                 None => led,
@@ -71,8 +78,8 @@ impl<'a, L: Levels, P: Preference<L>> Judge<'a, L, P> {
         best
     }
 
-    // The best word among the sums of a start and what the rows generate. This and the two after it ask for a legal start: no
-    // type carries that fact, since an invariant cannot speak of the arithmetic that a type parameter brings.
+    // The best word among the sums of a start and what the rows generate. Like its neighbours it asks for a
+    // legal start: a type that carries this would carry the factors too, and each would ask that these are the judge's instead.
     fn best_of_coset(&self, rows: &[u64], start: u64) -> u64
         requires { Word L.Levels.model self.now.factors start }
         ensures { Top (order_of L.Levels.model P.Preference.good self.now) (Coset L.Levels.model self.now.factors rows.now start) result }
@@ -81,7 +88,8 @@ impl<'a, L: Levels, P: Preference<L>> Judge<'a, L, P> {
         self.best_over_leaves(before, sums.as_slice(), start)
     }
 
-    // The best word among the sums of a start, multiples of the words, and a leaf.
+    // The best word among the sums of a start, multiples of the words, and a leaf. Words, leaves and start stand apart as in
+    // `count` of span.rt.
     fn best_over_leaves(&self, words: &[u64], leaves: &[u64], start: u64) -> u64
         requires start { Word L.Levels.model self.now.factors start }
         requires some { 0 < length leaves.now }
@@ -118,9 +126,14 @@ impl<'a, L: Levels, P: Preference<L>> Judge<'a, L, P> {
     // The better of two words, the smaller code among equals.
     #[tactic(auto, unfolding(crate::specs::Search::better_of))]
     fn better(&self, a: u64, b: u64) -> u64
-        ensures { result ≡ better_of L.Levels.model (P.Preference.good self.now.preference.now) self.now.factors self.now.base.now a b }
+        ensures { Better L.Levels.model (P.Preference.good self.now.preference.now) self.now.factors self.now.base.now a b result }
     {
-        match self.preference.compare(self.factors, self.base, a, b) {
+        let verdict = if self.able {
+            self.preference.prefer(self.factors, self.base, a, b)
+        } else {
+            Verdict::Equal
+        };
+        match verdict {
             Verdict::First => a,
             Verdict::Second => b,
             Verdict::Equal => a.min(b),

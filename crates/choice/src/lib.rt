@@ -14,7 +14,8 @@ use levels::{Basis, Levels};
 use preferences::Preference;
 
 // The generators of what a base list and further words generate together, beyond the base list: at each step the best
-// word that the base list and the words chosen so far do not generate, the smallest code among equals.
+// word that the base list and the words chosen so far do not generate, the smallest code among equals. At most 16 further words are a
+// premise of the promise: a slice of any length is taken.
 pub fn choose<L: Levels, P: Preference<L>>(
     preference: &P,
     n: u8,

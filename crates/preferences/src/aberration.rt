@@ -6,7 +6,7 @@ ghost use Rattle.preferences.specs.Built.{least_aberration, no_more, all_tallies
 ghost use Rattle.preferences.specs.Verdicts.{verdict_of};
 ghost use Rattle.preferences.specs.Counts.{least_aberration_laws};
 
-use crate::preference::{Preference, Verdict, judged, smaller};
+use crate::preference::{Preference, Verdict, smaller};
 use levels::Levels;
 use levels::span::{LENGTHS, tally_both};
 
@@ -19,10 +19,8 @@ impl<L: Levels> Preference<L> for LeastAberration {
     // the order of counts
     ghost lawful = { λ self. least_aberration_laws L.Levels.model L.Levels.lawful };
 
-    fn compare(&self, n: u8, base: &[u64], a: u64, b: u64) -> Verdict {
-        if !judged::<L>(n, base, a, b) {
-            Verdict::Equal
-        } else if base.is_empty() {
+    fn prefer(&self, n: u8, base: &[u64], a: u64, b: u64) -> Verdict {
+        if base.is_empty() {
             longer::<L>(a, b)
         } else {
             fewer::<L>(n, base, a, b)
@@ -38,10 +36,9 @@ fn longer<L: Levels>(a: u64, b: u64) -> Verdict
 }
 
 // Of two words, the one whose aliases have fewer of the first length in which they differ.
+// Legal words are premises, as in `prefer`.
 fn fewer<L: Levels>(n: u8, base: &[u64], a: u64, b: u64) -> Verdict
-    requires first { Word L.Levels.model n a }
-    requires second { Word L.Levels.model n b }
-    ensures { result ≡ verdict_of (no_more (all_tallies L.Levels.model n base.now a) (all_tallies L.Levels.model n base.now b)) (no_more (all_tallies L.Levels.model n base.now b) (all_tallies L.Levels.model n base.now a)) }
+    ensures { Word L.Levels.model n a → Word L.Levels.model n b → result ≡ verdict_of (no_more (all_tallies L.Levels.model n base.now a) (all_tallies L.Levels.model n base.now b)) (no_more (all_tallies L.Levels.model n base.now b) (all_tallies L.Levels.model n base.now a)) }
 {
     let mut firsts = [0; LENGTHS];
     let mut seconds = [0; LENGTHS];

@@ -4,7 +4,7 @@ ghost use Rattle.levels.specs.Words.{digits};
 ghost use Rattle.preferences.specs.Built.{cheapest, cost, cost_score};
 ghost use Rattle.std.proofs.Common.{rules};
 
-use crate::preference::{Preference, Scored, Verdict, count_if_legal, fewer_counts};
+use crate::preference::{Preference, Scored, Verdict, count_if_legal, smaller};
 use levels::Levels;
 
 // No word has more factors.
@@ -45,8 +45,11 @@ impl<L: Levels> Preference<L> for Cheapest {
 
     ghost lawful = { Prim.search rules };
 
-    fn compare(&self, n: u8, base: &[u64], a: u64, b: u64) -> Verdict {
-        fewer_counts::<L, _>(n, base, a, b, |word| self.cost::<L>(n, word))
+    fn prefer(&self, n: u8, _base: &[u64], a: u64, b: u64) -> Verdict {
+        smaller(
+            u64::from(self.cost::<L>(n, a)),
+            u64::from(self.cost::<L>(n, b)),
+        )
     }
 }
 

@@ -11,7 +11,7 @@ pub mod shortest;
 
 pub use aberration::LeastAberration;
 pub use cheapest::Cheapest;
-pub use preference::{Preference, Scored, Verdict};
+pub use preference::{Preference, Scored, Verdict, fair};
 pub use ranked::FirstThenSecond;
 pub use reversed::{Longest, Reversed};
 pub use shortest::Shortest;

@@ -1,6 +1,7 @@
 // A preference as an interface: one question about two words.
 ghost use Rattle.std.specs.Prelude.{◌≡◌, ℕ, true, false, ◌&&◌, nat_le};
 ghost use Rattle.levels.specs.Words.{legal};
+ghost use Rattle.levels.specs.Space.{Word};
 ghost use Rattle.preferences.specs.Relation.{Relation, PreferenceLaws, all_legal, fair};
 ghost use Rattle.preferences.specs.Verdicts.{of_order, verdict, verdict_of, turned, Scores};
 
@@ -48,7 +49,19 @@ pub trait Preference<L: Levels> {
     // Which of two codes is better for n factors and a base list of words. Equal where a code or a word of the
     // base list is illegal, or the base list is longer than the limit.
     fn compare(&self, n: u8, base: &[u64], a: u64, b: u64) -> Verdict
-        ensures { result ≡ verdict L.Levels.model (good self.now) n base.now a b };
+        ensures { result ≡ verdict L.Levels.model (good self.now) n base.now a b }
+    {
+        if !judged::<L>(n, base, a, b) {
+            return Verdict::Equal;
+        }
+        self.prefer(n, base, a, b)
+    }
+
+    // The same where every code is known to be legal and the base list to be within the limit, so that nothing has to be
+    // tested. Of other codes and lists it may say anything.
+    // Legal words are premises: a type that carried this would be of one number of factors, and each caller would make two of them.
+    fn prefer(&self, n: u8, base: &[u64], a: u64, b: u64) -> Verdict
+        ensures { fair L.Levels.model n base.now ≡ true → Word L.Levels.model n a → Word L.Levels.model n b → result ≡ verdict_of (good self.now n base.now a b) (good self.now n base.now b a) };
 
     ghost lawful: { (self : Self) → PreferenceLaws L.Levels.model (good self) };
 }
@@ -67,7 +80,14 @@ pub trait Scored<L: Levels>: Preference<L> {
 pub fn judged<L: Levels>(n: u8, base: &[u64], a: u64, b: u64) -> bool
     ensures { result ≡ (fair L.Levels.model n base.now && (legal L.Levels.model n a && legal L.Levels.model n b)) }
 {
-    base.len() <= L::LIMIT && all_legal::<L>(n, base) && L::legal(n, a) && L::legal(n, b)
+    fair::<L>(n, base) && L::legal(n, a) && L::legal(n, b)
+}
+
+// Whether preferences judge by a base list: every word is legal, and there are no more than the limit.
+pub fn fair<L: Levels>(n: u8, base: &[u64]) -> bool
+    ensures { result ≡ fair L.Levels.model n base.now }
+{
+    base.len() <= L::LIMIT && all_legal::<L>(n, base)
 }
 
 // Whether every word of a list is legal.
@@ -82,25 +102,6 @@ pub fn smaller(a: u64, b: u64) -> Verdict
     ensures { result ≡ verdict_of (nat_le a b) (nat_le b a) }
 {
     Verdict::from(a.cmp(&b))
-}
-
-// Where there is anything to judge, the word that counts less is better.
-#[inline]
-pub(crate) fn fewer_counts<L: Levels, F: Fn(u64) -> u32>(
-    n: u8,
-    base: &[u64],
-    a: u64,
-    b: u64,
-    count: F,
-) -> Verdict
-    requires { F.IsAlwaysCallable count }
-    ensures judged { (fair L.Levels.model n base.now && (legal L.Levels.model n a && legal L.Levels.model n b)) ≡ true → (x : ℕ) × (y : ℕ) × F.post count a x × F.post count b y × (result ≡ verdict_of (nat_le x y) (nat_le y x)) }
-    ensures otherwise { (fair L.Levels.model n base.now && (legal L.Levels.model n a && legal L.Levels.model n b)) ≡ false → result ≡ Verdict.Equal }
-{
-    if !judged::<L>(n, base, a, b) {
-        return Verdict::Equal;
-    }
-    Verdict::from(count(a).cmp(&count(b)))
 }
 
 // What a legal word counts; 0 for an illegal code.

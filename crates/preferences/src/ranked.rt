@@ -17,9 +17,9 @@ impl<L: Levels, P: Preference<L>, Q: Preference<L>> Preference<L> for FirstThenS
     // the laws of the two preferences
     ghost lawful = { λ self. first_then_second_laws L.Levels.model (P.Preference.good self.first) (Q.Preference.good self.second) (P.Preference.lawful self.first) (Q.Preference.lawful self.second) };
 
-    fn compare(&self, n: u8, base: &[u64], a: u64, b: u64) -> Verdict {
-        match self.first.compare(n, base, a, b) {
-            Verdict::Equal => self.second.compare(n, base, a, b),
+    fn prefer(&self, n: u8, base: &[u64], a: u64, b: u64) -> Verdict {
+        match self.first.prefer(n, base, a, b) {
+            Verdict::Equal => self.second.prefer(n, base, a, b),
             decided => decided,
         }
     }

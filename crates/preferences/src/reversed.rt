@@ -18,7 +18,7 @@ impl<L: Levels, P: Preference<L>> Preference<L> for Reversed<P> {
     // the laws of the preference
     ghost lawful = { λ self. reversed_laws L.Levels.model (P.Preference.good self.0) (P.Preference.lawful self.0) };
 
-    fn compare(&self, n: u8, base: &[u64], a: u64, b: u64) -> Verdict {
-        self.0.compare(n, base, a, b).turned()
+    fn prefer(&self, n: u8, base: &[u64], a: u64, b: u64) -> Verdict {
+        self.0.prefer(n, base, a, b).turned()
     }
 }

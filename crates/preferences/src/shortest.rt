@@ -3,7 +3,7 @@ ghost use Rattle.std.specs.Prelude.{◌≡◌};
 ghost use Rattle.preferences.specs.Built.{shortest, length_score};
 ghost use Rattle.std.proofs.Common.{rules};
 
-use crate::preference::{Preference, Scored, Verdict, count_if_legal, fewer_counts};
+use crate::preference::{Preference, Scored, Verdict, count_if_legal, smaller};
 use levels::Levels;
 
 #[derive(Clone, Copy)]
@@ -14,8 +14,8 @@ impl<L: Levels> Preference<L> for Shortest {
 
     ghost lawful = { Prim.search rules };
 
-    fn compare(&self, n: u8, base: &[u64], a: u64, b: u64) -> Verdict {
-        fewer_counts::<L, _>(n, base, a, b, |word| u32::from(L::length(word)))
+    fn prefer(&self, _n: u8, _base: &[u64], a: u64, b: u64) -> Verdict {
+        smaller(u64::from(L::length(a)), u64::from(L::length(b)))
     }
 }
 

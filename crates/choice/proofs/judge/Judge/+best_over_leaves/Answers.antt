@@ -2,7 +2,8 @@ use Rattle.std.proofs.Common.{◌≡◌, ◌-◌, length, get_or, take, drop, sy
 use Rattle.levels.specs.Words.{word_sum, word_multiple}
 use Rattle.levels.specs.Space.{Word}
 use Rattle.levels.proofs.Leaves.{sum_legal}
-use Rattle.choice.specs.Search.{order_of, Spread, Top}
+use Rattle.choice.specs.Search.{Spread, Top}
+use Rattle.choice.specs.Judged.{order_of}
 use Rattle.choice.proofs.Tops.{top_first}
 use Rattle.choice.proofs.Sums.{spread_more, next_start, start_again}
 use Rattle.choice.proofs.judge.Judge.+best_over_leaves.Goals as goal

@@ -1,6 +1,7 @@
 use Rattle.std.proofs.Common.{length}
 use Rattle.levels.specs.Words.{word_sum, word_multiple}
-use Rattle.choice.specs.Search.{order_of, Below, Spread, Top}
+use Rattle.choice.specs.Search.{Below, Spread, Top}
+use Rattle.choice.specs.Judged.{order_of}
 use Rattle.choice.proofs.judge.Judge.+best_over_leaves.Given as goal
 
 abbrev pub decreases-best_over_leaves : goal.decreases-best_over_leaves

@@ -12,7 +12,8 @@ use Rattle.levels.specs.Basis.{Echelon}
 use Rattle.levels.specs.Generated.{SameWords}
 use Rattle.levels.specs.Rows.{basis_rows}
 use Rattle.preferences.specs.Relation.{Relation, PreferenceLaws, judged}
-use Rattle.choice.specs.Search.{better_of, order_of, Below, Led, LedAt, Top, TopOf}
+use Rattle.choice.specs.Search.{Better, Below, Led, LedAt, Top, TopOf}
+use Rattle.choice.specs.Judged.{order_of}
 use Rattle.choice.proofs.Greedy.{judged_order}
 use Rattle.choice.proofs.Sums.{led_row, found}
 use Rattle.choice.proofs.judge.Judge.best_fresh.Goals as goal
@@ -30,7 +31,7 @@ module _ (A : Arithmetic) (L : Lawful A) (good : Relation) (laws : PreferenceLaw
   row_word = subst (Word A n) (sym at.2) (echelon.words (k + j) at.0)
 
   -- the best of the words led by the rows so far and by this one
-  one_more : (a : Option ℕ) (b r more : ℕ) → more ≡ j + 1 → MatchOption a (r ≡ b) (λ x. r ≡ better_of A good n base x b) →
+  one_more : (a : Option ℕ) (b r more : ℕ) → more ≡ j + 1 → MatchOption a (r ≡ b) (λ x. Better A good n base x b r) →
       TopOf (judged A good n base) (Below (k + j) (LedAt A n rows k)) a → Top (judged A good n base) (Led A n (take p.0 rows) p.1) b → Top (judged A good n base) (Below (k + more) (LedAt A n rows k)) r
   one_more a b r more next is ta tb =
       let all : (k + j) + 1 ≡ k + more = omega arith in

@@ -1,6 +1,7 @@
 use Rattle.std.proofs.Common.{◌+◌, length}
 use Rattle.levels.specs.Rows.{basis_rows}
-use Rattle.choice.specs.Search.{order_of, Below, LedAt, TopOf}
+use Rattle.choice.specs.Search.{Below, LedAt, TopOf}
+use Rattle.choice.specs.Judged.{order_of}
 use Rattle.choice.proofs.judge.Judge.best_fresh.Given as goal
 
 -- the best so far is the best of the words led by the added rows so far

@@ -1,4 +1,5 @@
-use Rattle.choice.specs.Search.{order_of, Below, LedBy, Top}
+use Rattle.choice.specs.Search.{Below, LedBy, Top}
+use Rattle.choice.specs.Judged.{order_of}
 use Rattle.choice.proofs.judge.Judge.best_led.Given as goal
 
 -- the best so far is the best of the words led by the levels so far

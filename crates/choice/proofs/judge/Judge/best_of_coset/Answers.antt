@@ -3,7 +3,8 @@ use Rattle.levels.specs.Space.{AllWords}
 use Rattle.levels.specs.Generated.{combinations}
 use Rattle.levels.proofs.Leaves.{combinations_words}
 use Rattle.levels.proofs.Reduced.{space_at}
-use Rattle.choice.specs.Search.{order_of, Coset, Spread, Top}
+use Rattle.choice.specs.Search.{Coset, Spread, Top}
+use Rattle.choice.specs.Judged.{order_of}
 use Rattle.choice.proofs.Tops.{top_same}
 use Rattle.choice.proofs.Sums.{spread_coset, coset_spread, leaves_some}
 use Rattle.choice.proofs.judge.Judge.best_of_coset.Goals as goal

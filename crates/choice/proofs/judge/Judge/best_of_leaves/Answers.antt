@@ -2,7 +2,8 @@ use Rattle.std.proofs.Common.{◌≡◌, ◌+◌, ◌-◌, ◌<◌, length, get_
 use Rattle.std.proofs.lemmas.List.{take_rest}
 use Rattle.std.proofs.lemmas.Grind.{get_or_after_one}
 use Rattle.levels.specs.Words.{code_sum}
-use Rattle.choice.specs.Search.{order_of, Leaf}
+use Rattle.choice.specs.Search.{Leaf}
+use Rattle.choice.specs.Judged.{order_of}
 use Rattle.choice.proofs.Tops.{top_first}
 use Rattle.choice.proofs.Sums.{leaf_alone, leaf_more}
 use Rattle.choice.proofs.judge.Judge.best_of_leaves.Goals as goal

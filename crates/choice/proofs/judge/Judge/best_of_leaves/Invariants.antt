@@ -1,5 +1,6 @@
 use Rattle.std.proofs.Common.{◌+◌}
-use Rattle.choice.specs.Search.{order_of, Below, Leaf, Top}
+use Rattle.choice.specs.Search.{Below, Leaf, Top}
+use Rattle.choice.specs.Judged.{order_of}
 use Rattle.choice.proofs.judge.Judge.best_of_leaves.Given as goal
 
 -- the best so far is the best of the sums with the leaves so far
