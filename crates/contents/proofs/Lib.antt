@@ -1,2 +1,3 @@
+pub mod Bases
 pub mod Membership
 pub mod Outcomes

@@ -1,4 +1,5 @@
 pub mod Content
+pub mod Drafts
 pub mod Held
 pub mod List
 pub mod Memory

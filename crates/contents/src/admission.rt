@@ -1,5 +1,6 @@
 // Words are admitted to a plan and struck from it.
 ghost use Rattle.std.specs.Prelude.{◌≡◌};
+ghost use Rattle.levels.specs.Space.{Word};
 ghost use Rattle.levels.specs.Generated.{generated, holds};
 ghost use Rattle.contents.specs.Content.{Acts, admissible, admitted, both, struck, word_at};
 ghost use Rattle.contents.specs.Held.{content_of};
@@ -17,13 +18,14 @@ impl PlanContent {
         basis::generated::<L>(self.factors, self.together().as_slice(), word)
     }
 
-    // Whether a word may be admitted.
-    fn admissible<L: Levels>(&self, word: u64) -> Result<(), Refusal>
+    // Whether a word may be admitted, of which it is known, if it is legal, whether both lists generate it.
+    pub(crate) fn admissible<L: Levels>(&self, word: u64, known: bool) -> Result<(), Refusal>
+        requires { Word L.Levels.model self.now.factors word → known ≡ holds (generated L.Levels.model self.now.factors (both (content_of self.now))) word }
         ensures { result ≡ admissible L.Levels.model word (content_of self.now) }
     {
         if !L::legal(self.factors, word) {
             Err(Refusal::Illegal)
-        } else if self.generates::<L>(word) {
+        } else if known {
             Err(Refusal::Generated)
         } else if self.defining.len() + self.block.len() < L::LIMIT {
             Ok(())
@@ -36,7 +38,7 @@ impl PlanContent {
     pub fn admit<L: Levels>(&mut self, side: Side, word: u64) -> Result<(), Refusal>
         ensures { Acts (admitted L.Levels.model side word (content_of self.old)) (content_of self.old) (content_of self.new) result }
     {
-        self.admissible::<L>(word)?;
+        self.admissible::<L>(word, self.generates::<L>(word))?;
         self.push(side, word);
         Ok(())
     }

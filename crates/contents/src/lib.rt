@@ -3,12 +3,14 @@
 
 mod admission;
 pub mod content;
+pub mod draft;
 pub mod memory;
 pub mod refusal;
 pub mod side;
 pub mod words;
 
 pub use content::PlanContent;
+pub use draft::Draft;
 pub use memory::store;
 pub use refusal::Refusal;
 pub use side::Side;

@@ -38,6 +38,7 @@ impl Refusal {
     pub fn number(self) -> u8
         ensures { result ≡ number_of self }
     {
+        // as: the one way to a discriminant.
         self as u8
     }
 }

@@ -1,5 +1,4 @@
 // The plan file: read into the content of a plan, and written from it.
-// as: From has neither usize to u64 nor a narrower number.
 #![tactic(auto)]
 
 pub mod buffer;

@@ -1,11 +1,11 @@
 // A plan file is read.
 ghost use Rattle.std.specs.Prelude.{◌≡◌, map};
 ghost use Rattle.contents.specs.Content.{admitted_all};
-ghost use Rattle.contents.specs.Held.{content_of, ended, result_of};
+ghost use Rattle.contents.specs.Held.{ended, result_of};
 ghost use Rattle.planfile.specs.File.{number, read_file};
 
 use crate::{HEAD, MARK, VERSION};
-use contents::{PlanContent, Refusal, Side};
+use contents::{Draft, PlanContent, Refusal, Side};
 use levels::Levels;
 use std::cmp::Ordering;
 
@@ -65,25 +65,25 @@ pub fn read<L: Levels>(file: &[u8]) -> Result<PlanContent, Refusal>
     ensures { result_of result ≡ read_file L.Levels.model file.now }
 {
     let head = Head::read::<L>(file)?;
-    let mut held = PlanContent::started(head.factors)?;
+    let mut draft = Draft::<L>::started(head.factors)?;
     head.check_size::<L>(file.len())?;
     let (words, _) = file[HEAD..].as_chunks::<8>();
     let (defining, block) = words.split_at(usize::from(head.defining));
-    admit_words::<L>(&mut held, Side::Defining, defining)?;
-    admit_words::<L>(&mut held, Side::Block, block)?;
-    Ok(held)
+    admit_words(&mut draft, Side::Defining, defining)?;
+    admit_words(&mut draft, Side::Block, block)?;
+    Ok(draft.finish())
 }
 
 // The words of a file are admitted to one list, until one is refused.
 fn admit_words<L: Levels>(
-    held: &mut PlanContent,
+    draft: &mut Draft<L>,
     side: Side,
     words: &[[u8; 8]],
 ) -> Result<(), Refusal>
-    ensures { ended result (content_of held.new) ≡ admitted_all L.Levels.model side (map number words.now) (content_of held.old) }
+    ensures { ended result draft.new ≡ admitted_all L.Levels.model side (map number words.now) draft.old }
 {
     for word in words {
-        held.admit::<L>(side, u64::from_le_bytes(*word))?;
+        draft.admit(side, u64::from_le_bytes(*word))?;
     }
     Ok(())
 }

@@ -13,6 +13,7 @@ use levels::Levels;
 fn head<L: Levels>(held: &PlanContent) -> [u8; HEAD]
     ensures { result ≡ mark ++ bytes_of 2 1 ++ (L.Levels.model.s ∷ (content_of held.now).factors ∷ length (content_of held.now).defining ∷ length (content_of held.now).block ∷ []) }
 {
+    // as: From has no such pair, and TryFrom would bring an error that cannot come.
     let defining = held.list(Side::Defining).len() as u8;
     let block = held.list(Side::Block).len() as u8;
     let [d, w, f] = MARK;

@@ -4,7 +4,7 @@ use Rattle.std.proofs.lemmas.List.{at_drop_more}
 use Rattle.std.proofs.lemmas.Result.{err_from_is_err_and}
 use Rattle.contents.specs.Content.{admitted, admitted_all}
 use Rattle.planfile.specs.File.{number}
-use Rattle.contents.specs.Held.{content_of, ended}
+use Rattle.contents.specs.Held.{ended}
 use Rattle.contents.proofs.Outcomes.{acts_refused, acts_done, all_refused, all_onward}
 use Rattle.planfile.proofs.Coding.{number_8}
 use Rattle.planfile.proofs.reading.admit_words.Goals as goal
@@ -16,13 +16,13 @@ returns-in_err-admit g c =
     let i = c.loop-word.word-index in
     let all = c.args.words.now in
     let w = c.from_le_bytes.result in
-    let p = content_of c.loop-word.held in
+    let p = c.loop-word.draft in
     let e = c.in_err-admit.field-0.0 in
     let rest : List ℕ = map number (drop (i + 1) all) in
     let is : w ≡ number (get_or all i []) = c.from_le_bytes.ensures ∙ number_8 (get_or all i []) (omega arith) in
     let x = err_from_is_err_and c.from_residual.result c.from_residual.ensures.1 in
-    let refused : admitted A side w p ≡ Err e = acts_refused (admitted A side w p) p (content_of c.admit.new.self) c.admit.result e c.admit.ensures c.in_err-admit.was in
-    ap (λ v. ended v (content_of c.admit.new.self)) (x.1 ∙ ap Err x.2)
+    let refused : admitted A side w p ≡ Err e = acts_refused (admitted A side w p) p c.admit.new.self c.admit.result e c.admit.ensures c.in_err-admit.was in
+    ap (λ v. ended v c.admit.new.self) (x.1 ∙ ap Err x.2)
     ∙ sym (all_refused A side w rest p e refused)
     ∙ ap (λ v. admitted_all A side (v ∷ rest) p) is
     ∙ sym (at_drop_more (λ ws. admitted_all A side (map number ws) p) all i [] c.loop-word-test.true)
@@ -35,8 +35,8 @@ loop-word-preserved g c =
     let i = c.loop-word.word-index in
     let all = c.args.words.now in
     let w = c.from_le_bytes.result in
-    let p = content_of c.loop-word.held in
-    let q = content_of c.admit.new.self in
+    let p = c.loop-word.draft in
+    let q = c.admit.new.self in
     let rest : List ℕ = map number (drop (i + 1) all) in
     let is : w ≡ number (get_or all i []) = c.from_le_bytes.ensures ∙ number_8 (get_or all i []) (omega arith) in
     let done : admitted A side w p ≡ Ok q = acts_done (admitted A side w p) p q c.admit.result c.admit.ensures c.in_ok-admit.was in

@@ -4,7 +4,7 @@ use Rattle.std.proofs.lemmas.List.{take_rest}
 use Rattle.std.proofs.lemmas.Result.{err_from_is_err_and}
 use Rattle.contents.specs.declared.side.Side.TheVariants.{Defining, Block}
 use Rattle.contents.specs.Content.{admitted_all}
-use Rattle.contents.specs.Held.{content_of, ended, result_of}
+use Rattle.contents.specs.Held.{ended, result_of}
 use Rattle.contents.proofs.Outcomes.{and_then}
 use Rattle.planfile.specs.File.{number}
 use Rattle.planfile.proofs.Files.{read_chunks}
@@ -16,15 +16,15 @@ returns-in_err-admit_words g c =
     let A = g.L.Levels.model in
     let f = c.args.file.now in
     let h = c.in_ok-head.head in
-    let p = content_of c.in_ok-held.held in
+    let p = c.in_ok-draft.draft in
     let chunks = c.as_chunks.result.0.now in
     let x = err_from_is_err_and c.from_residual-in_err-admit_words.result c.from_residual-in_err-admit_words.ensures.1 in
     let first : admitted_all A Defining (map number (take h.defining chunks)) p ≡ Err c.in_err-admit_words.field-0.0 =
     ap (λ us. admitted_all A Defining (map number us) p) (sym (c.split_at.ensures.front ∙ ap (λ n. take n chunks) c.from.ensures)) ∙ sym c.admit_words.ensures
-    ∙ ap (λ v. ended v (content_of c.admit_words.new.held)) c.in_err-admit_words.was in
+    ∙ ap (λ v. ended v c.admit_words.new.draft) c.in_err-admit_words.was in
     ap result_of (x.1 ∙ ap Err x.2)
     ∙ sym (read_chunks A f (take (length f - 9) (drop 9 f)) chunks h p (take_rest f 9) c.as_chunks.ensures.front
-    (sym c.read.ensures ∙ c.in_ok-head.was) (sym c.started.ensures ∙ ap result_of c.in_ok-held.was) (sym c.check_size.ensures ∙ c.in_ok-check_size.was)
+    (sym c.read.ensures ∙ c.in_ok-head.was) (sym c.started.ensures ∙ c.in_ok-draft.was) (sym c.check_size.ensures ∙ c.in_ok-check_size.was)
     ∙ ap (λ r. and_then r (admitted_all A Block (map number (drop h.defining chunks)))) first)
 
 -- a word of the block list is refused
@@ -33,18 +33,18 @@ returns-in_err-admit_words-2 g c =
     let A = g.L.Levels.model in
     let f = c.args.file.now in
     let h = c.in_ok-head.head in
-    let p = content_of c.in_ok-held.held in
-    let q = content_of c.admit_words.new.held in
+    let p = c.in_ok-draft.draft in
+    let q = c.admit_words.new.draft in
     let chunks = c.as_chunks.result.0.now in
     let x = err_from_is_err_and c.from_residual-in_err-admit_words-2.result c.from_residual-in_err-admit_words-2.ensures.1 in
     let first : admitted_all A Defining (map number (take h.defining chunks)) p ≡ Ok q =
     ap (λ us. admitted_all A Defining (map number us) p) (sym (c.split_at.ensures.front ∙ ap (λ n. take n chunks) c.from.ensures)) ∙ sym c.admit_words.ensures ∙ ap (λ v. ended v q) c.in_ok-admit_words.was in
     let others : admitted_all A Block (map number (drop h.defining chunks)) q ≡ Err c.in_err-admit_words-2.field-0.0 =
     ap (λ us. admitted_all A Block (map number us) q) (sym (c.split_at.ensures.back ∙ ap (λ n. drop n chunks) c.from.ensures)) ∙ sym c.admit_words-2.ensures
-    ∙ ap (λ v. ended v (content_of c.admit_words-2.new.held)) c.in_err-admit_words-2.was in
+    ∙ ap (λ v. ended v c.admit_words-2.new.draft) c.in_err-admit_words-2.was in
     ap result_of (x.1 ∙ ap Err x.2)
     ∙ sym (read_chunks A f (take (length f - 9) (drop 9 f)) chunks h p (take_rest f 9) c.as_chunks.ensures.front
-    (sym c.read.ensures ∙ c.in_ok-head.was) (sym c.started.ensures ∙ ap result_of c.in_ok-held.was) (sym c.check_size.ensures ∙ c.in_ok-check_size.was)
+    (sym c.read.ensures ∙ c.in_ok-head.was) (sym c.started.ensures ∙ c.in_ok-draft.was) (sym c.check_size.ensures ∙ c.in_ok-check_size.was)
     ∙ ap (λ r. and_then r (admitted_all A Block (map number (drop h.defining chunks)))) first ∙ others)
 
 -- all words are admitted
@@ -53,14 +53,15 @@ returns g c =
     let A = g.L.Levels.model in
     let f = c.args.file.now in
     let h = c.in_ok-head.head in
-    let p = content_of c.in_ok-held.held in
-    let q = content_of c.admit_words.new.held in
+    let p = c.in_ok-draft.draft in
+    let q = c.admit_words.new.draft in
     let chunks = c.as_chunks.result.0.now in
     let first : admitted_all A Defining (map number (take h.defining chunks)) p ≡ Ok q =
     ap (λ us. admitted_all A Defining (map number us) p) (sym (c.split_at.ensures.front ∙ ap (λ n. take n chunks) c.from.ensures)) ∙ sym c.admit_words.ensures ∙ ap (λ v. ended v q) c.in_ok-admit_words.was in
-    let others : admitted_all A Block (map number (drop h.defining chunks)) q ≡ Ok (content_of c.admit_words-2.new.held) =
+    let others : admitted_all A Block (map number (drop h.defining chunks)) q ≡ Ok c.admit_words-2.new.draft =
     ap (λ us. admitted_all A Block (map number us) q) (sym (c.split_at.ensures.back ∙ ap (λ n. drop n chunks) c.from.ensures)) ∙ sym c.admit_words-2.ensures
-    ∙ ap (λ v. ended v (content_of c.admit_words-2.new.held)) c.in_ok-admit_words-2.was in
-    sym (read_chunks A f (take (length f - 9) (drop 9 f)) chunks h p (take_rest f 9) c.as_chunks.ensures.front
-    (sym c.read.ensures ∙ c.in_ok-head.was) (sym c.started.ensures ∙ ap result_of c.in_ok-held.was) (sym c.check_size.ensures ∙ c.in_ok-check_size.was)
+    ∙ ap (λ v. ended v c.admit_words-2.new.draft) c.in_ok-admit_words-2.was in
+    ap Ok c.finish.ensures
+    ∙ sym (read_chunks A f (take (length f - 9) (drop 9 f)) chunks h p (take_rest f 9) c.as_chunks.ensures.front
+    (sym c.read.ensures ∙ c.in_ok-head.was) (sym c.started.ensures ∙ c.in_ok-draft.was) (sym c.check_size.ensures ∙ c.in_ok-check_size.was)
     ∙ ap (λ r. and_then r (admitted_all A Block (map number (drop h.defining chunks)))) first ∙ others)
