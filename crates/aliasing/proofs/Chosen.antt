@@ -11,7 +11,7 @@ use Rattle.levels.specs.Words.{legal}
 use Rattle.levels.specs.Space.{AllWords}
 use Rattle.levels.specs.Generated.{generated, Independent}
 use Rattle.aliasing.specs.Runs.{is_run, all_even, runs_below, Run}
-use Rattle.aliasing.specs.Table.{odd, evens, empty_below, empty_table, filled, Rows}
+use Rattle.aliasing.specs.Table.{odd, evens, empty_below, empty_table, all_placed, Rows}
 use Rattle.aliasing.proofs.Parity.{odd_none, odd_blank, odd_same, odd_turned}
 use Rattle.aliasing.proofs.Evens.{run_test}
 use Rattle.aliasing.proofs.Placed.{rows_of}
@@ -22,7 +22,7 @@ evens_none [] = refl
 evens_none (t ∷ ts) = and_from (eqb (odd 0 t) 0) (evens ts 0) (eq-eqb (odd 0 t) 0 (odd_none t)) (evens_none ts)
 
 -- codes under which each row has the same parity
-evens_same : (ts : List ℕ) (x y : ℕ) → ((i : ℕ) → odd x (get_or ts i 0) ≡ odd y (get_or ts i 0)) → evens ts x ≡ evens ts y
+pub evens_same : (ts : List ℕ) (x y : ℕ) → ((i : ℕ) → odd x (get_or ts i 0) ≡ odd y (get_or ts i 0)) → evens ts x ≡ evens ts y
 evens_same [] x y h = refl
 evens_same (t ∷ ts) x y h = ap₂ (λ a b. eqb a 0 && b) (h 0) (evens_same ts x y (λ i. h (suc i)))
 
@@ -31,7 +31,7 @@ whole_next : (t k : ℕ) → t % 2 ^ suc k ≡ 0 → t % 2 ^ k ≡ 0
 whole_next t k z = omega (arith, mod-pow-add t 1 k, ap (λ q. t % 2 ^ q) (one-add k))
 
 -- a word whose lowest letter is not below a place is whole from there on
-pivot_whole : (t k j : ℕ) → t % 2 ^ suc (j + k) ≡ 2 ^ (j + k) → t % 2 ^ k ≡ 0
+pub pivot_whole : (t k j : ℕ) → t % 2 ^ suc (j + k) ≡ 2 ^ (j + k) → t % 2 ^ k ≡ 0
 pivot_whole t k j e =
     let split : t % 2 ^ (suc j + k) ≡ t / 2 ^ k % 2 ^ suc j * 2 ^ k + t % 2 ^ k = mod-pow-add t (suc j) k in
     let same : suc j + k ≡ suc (j + k) = omega arith in
@@ -59,6 +59,14 @@ joined a b c d e f p q h = omega arith
 chosen_one : (a b f q m p : ℕ) → a ≡ b + f → p ≡ f + q → b + p ≡ m → a + q ≡ m
 chosen_one a b f q m p h i j = omega arith
 
+-- an empty place more
+pub empty_free : (T : List ℕ) (k : ℕ) → get_or T k 0 ≡ 0 → empty_below T (suc k) ≡ suc (empty_below T k)
+empty_free T k e = ap (λ b. cond b 1 0 + empty_below T k) (eq-eqb (get_or T k 0) 0 e) ∙ one-add (empty_below T k)
+
+-- a row: no empty place more
+pub empty_row : (T : List ℕ) (k : ℕ) → (get_or T k 0 ≡ 0 → ⊥) → empty_below T (suc k) ≡ empty_below T k
+empty_row T k ne = ap (λ b. cond b 1 0 + empty_below T k) (ne_eqb (get_or T k 0) 0 ne) ∙ zero-add (empty_below T k)
+
 module _ (n : ℕ) (low : 1 ≤ n) (high : n ≤ 32) (ws T : List ℕ) (r : Rows n ws T) where
   -- how many runs are smaller than a code
   abbrev below : ℕ → ℕ
@@ -69,7 +77,7 @@ module _ (n : ℕ) (low : 1 ≤ n) (high : n ≤ 32) (ws T : List ℕ) (r : Rows
   good k x = evens (drop k T) x
 
   -- one place lower, one row more
-  good_step : (k x : ℕ) → k < n → good k x ≡ (eqb (odd x (get_or T k 0)) 0 && good (suc k) x)
+  pub good_step : (k x : ℕ) → k < n → good k x ≡ (eqb (odd x (get_or T k 0)) 0 && good (suc k) x)
   good_step k x l = ap (λ ts. evens ts x) (drop-cons T k 0 (omega (arith, r.table.size)))
 
   -- the rows above a place do not have its letter
@@ -85,18 +93,14 @@ module _ (n : ℕ) (low : 1 ≤ n) (high : n ≤ 32) (ws T : List ℕ) (r : Rows
       ]))
 
   -- an empty place: both levels are possible, and the number of runs doubles
-  free_step : (k x : ℕ) → k < n → get_or T k 0 ≡ 0 → (good k x ≡ good (suc k) x) × (2 ^ empty_below T (suc k) ≡ 2 ^ empty_below T k * 2)
+  pub free_step : (k x : ℕ) → k < n → get_or T k 0 ≡ 0 → (good k x ≡ good (suc k) x) × (2 ^ empty_below T (suc k) ≡ 2 ^ empty_below T k * 2)
   free_step k x l e = (
     good_step k x l ∙ ap (λ b. b && good (suc k) x) (eq-eqb (odd x (get_or T k 0)) 0 (ap (odd x) e ∙ odd_blank x)),
-    ap (λ b. 2 ^ (cond b 1 0 + empty_below T k)) (eq-eqb (get_or T k 0) 0 e) ∙ ap (λ j. 2 ^ j) (one-add (empty_below T k)) ∙ pow-suc 2 (empty_below T k),
+    ap (λ j. 2 ^ j) (empty_free T k e) ∙ pow-suc 2 (empty_below T k),
   )
 
-  -- a row: the number of runs stays
-  row_step : (k : ℕ) → (get_or T k 0 ≡ 0 → ⊥) → empty_below T (suc k) ≡ empty_below T k
-  row_step k ne = ap (λ b. cond b 1 0 + empty_below T k) (ne_eqb (get_or T k 0) 0 ne) ∙ zero-add (empty_below T k)
-
   -- a row's parity with one letter more, its lowest
-  row_turned : (k x : ℕ) → (get_or T k 0 ≡ 0 → ⊥) → x % 2 ^ suc k ≡ 0 → odd (x + 2 ^ k) (get_or T k 0) ≡ (odd x (get_or T k 0) + 1) % 2
+  pub row_turned : (k x : ℕ) → (get_or T k 0 ≡ 0 → ⊥) → x % 2 ^ suc k ≡ 0 → odd (x + 2 ^ k) (get_or T k 0) ≡ (odd x (get_or T k 0) + 1) % 2
   row_turned k x ne z = elim (r.table.pivot k) [ inl e ↦ elim (ne e) [ ] | inr e ↦ odd_turned k x (get_or T k 0) z e ]
 
   -- so many runs have given levels from a place on
@@ -124,7 +128,7 @@ module _ (n : ℕ) (low : 1 ≤ n) (high : n ≤ 32) (ws T : List ℕ) (r : Rows
             let gx = good_step k x l in
             let gy = good_step k y l ∙ ap₂ (λ a b. eqb a 0 && b) (row_turned k x ne z) higher in
             ap₂ (λ a b. cond a F 0 + cond b F 0) gx gy ∙ one_of o (good (suc k) x) F (omega arith)
-            ∙ ap (λ j. cond (good (suc k) x) (2 ^ j) 0) (sym (row_step k ne))
+            ∙ ap (λ j. cond (good (suc k) x) (2 ^ j) 0) (sym (empty_row T k ne))
       ] in
       ap below whole ∙ joined (below (y + 2 ^ k)) (below y) (below x) (cond (good k x) F 0) (cond (good k y) F 0) (cond (good (suc k) x) (2 ^ empty_below T (suc k)) 0) second first half
 
@@ -137,7 +141,7 @@ module _ (n : ℕ) (low : 1 ≤ n) (high : n ≤ 32) (ws T : List ℕ) (r : Rows
       ∙ zero-add (2 ^ empty_below T n)
 
   -- the runs with level 0 at a place, below those with level 1
-  passed : (k x : ℕ) → k < n → x % 2 ^ suc k ≡ 0 → x + 2 ^ suc k ≤ 2 ^ n → below (x + 2 ^ k) ≡ below x + cond (good k x) (2 ^ empty_below T k) 0
+  pub passed : (k x : ℕ) → k < n → x % 2 ^ suc k ≡ 0 → x + 2 ^ suc k ≤ 2 ^ n → below (x + 2 ^ k) ≡ below x + cond (good k x) (2 ^ empty_below T k) 0
   passed k x l z h =
       counted k x (omega arith) (whole_next x k z) (omega (arith, pow-suc 2 k))
 
@@ -190,14 +194,14 @@ module _ (n : ℕ) (low : 1 ≤ n) (high : n ≤ 32) (ws T : List ℕ) (r : Rows
       let same : below (x + 2 ^ k) ≡ below x = passed k x l z h ∙ ap (λ g. below x + cond g (2 ^ empty_below T k) 0) here ∙ add-zero (below x) in
       record {
         even = good_step k (x + 2 ^ k) l ∙ ap₂ (λ o g. eqb o 0 && g) (row_turned k x ne z ∙ ap (λ o. (o + 1) % 2) one) (good_higher k x z ∙ c.even);
-        smaller = ap₂ (λ a j. a + m % 2 ^ j) same (sym (row_step k ne)) ∙ c.smaller;
+        smaller = ap₂ (λ a j. a + m % 2 ^ j) same (sym (empty_row T k ne)) ∙ c.smaller;
       }
   choice_row m k x l z h ne false d c =
       let t = get_or T k 0 in
       let none : odd x t ≡ 0 = omega (arith, eqb-false (odd x t) 1 (sym d)) in
       record {
         even = good_step k x l ∙ ap₂ (λ o g. eqb o 0 && g) none c.even;
-        smaller = ap (λ j. below x + m % 2 ^ j) (sym (row_step k ne)) ∙ c.smaller;
+        smaller = ap (λ j. below x + m % 2 ^ j) (sym (empty_row T k ne)) ∙ c.smaller;
       }
 
 -- the empty ones among the first places are counted
@@ -246,8 +250,7 @@ choose_next n T m k x digits digits' one l way h =
     let fits = level_fits n k x one h.whole h.room in
     elim way [
       | inl e ↦
-          let more : empty_below T (suc k) ≡ 1 + empty_below T k = ap (λ b. cond b 1 0 + empty_below T k) (eq-eqb (get_or T k 0) 0 e.0) in
-          let less : digits - 1 ≡ empty_below T k = omega (arith, h.left, more) in
+          let less : digits - 1 ≡ empty_below T k = omega (arith, h.left, empty_free T k e.0) in
           let digit = e.2 ∙ ap (λ d. eqb d 1) (and_mask (m / 2 ^ (digits - 1)) 1) ∙ ap (λ j. eqb (m / 2 ^ j % 2) 1) less in
           record {
             whole = fits.0;
@@ -258,7 +261,7 @@ choose_next n T m k x digits digits' one l way h =
       | inr e ↦ record {
         whole = fits.0;
         room = fits.1;
-        left = e.1 ∙ h.left ∙ ap (λ b. cond b 1 0 + empty_below T k) (ne_eqb (get_or T k 0) 0 e.0) ∙ zero-add (empty_below T k);
+        left = e.1 ∙ h.left ∙ empty_row T k e.0;
         choice = λ ws low high r. choice_row n low high ws T r m k x l h.whole h.room e.0 one e.2 (h.choice ws low high r);
       }
     ]
@@ -286,7 +289,7 @@ no_runs n ws none (suc x) = ap₂ (λ b k. cond (b && all_even n ws x) 1 0 + k) 
 -- each of a list of independent words halves the number of runs
 pub runs_total : (n : ℕ) → 1 ≤ n → n ≤ 32 → (ws : List ℕ) → Independent two n ws → AllWords two n ws → runs_below n (generated two n ws) (2 ^ n) ≡ 2 ^ (n - length ws)
 runs_total n low high ws ind all =
-    let T = filled n empty_table ws in
+    let T = all_placed n empty_table ws in
     let r = rows_of n low high ws in
     let left : empty_below T n ≡ n - length ws = omega (arith, r.rank ind all) in
     total n low high ws T r ∙ ap (λ k. 2 ^ k) left

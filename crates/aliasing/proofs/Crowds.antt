@@ -1,6 +1,7 @@
 -- Clear pairs: no other word of one letter or two has the same least alias.
-use Rattle.std.proofs.Common.{◌≡◌, ℕ, ◌+◌, ◌-◌, ◌<◌, ◌≤◌, Bool, true, false, cond, not, ◌&&◌, ◌||◌, eqb, ◌⊎◌, ◌↔◌, List, [], ◌∷◌, map, length, get_or, Decides, sym, refl, ap, ◌∙◌, subst, inl, inr, arith, length-append}
-use Rattle.std.proofs.lemmas.List.{get_or-map, length-map, get_or-append_right}
+use Rattle.std.proofs.Common.{◌≡◌, ℕ, ◌+◌, ◌-◌, ◌<◌, ◌≤◌, Bool, true, false, cond, not, ◌&&◌, ◌||◌, eqb, ◌⊎◌, ◌↔◌, List, [], ◌∷◌, map, length, get_or, take, drop, Decides, sym, refl, ap, ◌∙◌, subst, inl, inr, arith, length-append, length-take, length-drop}
+use Rattle.std.proofs.lemmas.List.{get_or-map, length-map, get_or-append_right, get_or-take, get_or-drop}
+use Rattle.std.proofs.lemmas.Grind.{same_number_lists}
 use Rattle.std.proofs.lemmas.Bool.{cases_eq, cases_Bool, or_cases, or_left, or_right, and_parts, and_from, eqb-true, eqb-false, eq-eqb, ne_eqb, not-true, not_from_false, both_ways, cond-true, cond-false}
 use Rattle.levels.specs.Arithmetic.{two}
 use Rattle.levels.specs.Words.{word_length}
@@ -14,8 +15,9 @@ use Rattle.levels.proofs.Multiplicity.{in_alias_set, in_alias_set_from}
 use Rattle.levels.proofs.Places.{In, in_left, in_right, in_append}
 use Rattle.levels.proofs.Ascending.{in_here, in_later, in_cons, in_none}
 use Rattle.aliasing.specs.Clear.{pairs, crowded, clear_byte}
+use Rattle.aliasing.specs.Buckets.{AloneAmong, Told}
 use Rattle.aliasing.specs.declared.clear.Short.{Short}
-use Rattle.aliasing.specs.Short.{letters_from, short_words, LeastAliases, Alone}
+use Rattle.aliasing.specs.Short.{letters_from, short_words, LeastAliases}
 use Rattle.aliasing.proofs.Ladders.{alias-is-word}
 use Rattle.aliasing.proofs.Shorts.{letter_word, word_letter, pair_word, word_pair, letters_length}
 
@@ -95,7 +97,7 @@ module _ (n : ℕ) (high : n ≤ 32) where
 
     module _ (p : Short) (h : In p.word (pairs n)) (lp : LeastAlias two n rows p.word p.least) where
       -- a pair alone with its least alias is clear
-      alone-clear : Alone ss p → crowded p.word (alias_set two n ws p.word) ≡ true → ⊥
+      alone-clear : AloneAmong (length ss) ss p → crowded p.word (alias_set two n ws p.word) ≡ true → ⊥
       alone-clear alone crowd =
           let hp = (pair_word n p.word high h).0 in
           let c = crowded_from p.word (alias_set two n ws p.word) crowd in
@@ -112,7 +114,7 @@ module _ (n : ℕ) (high : n ≤ 32) where
           s.1 (sym at ∙ alone i p li (sym r))
 
       -- and a clear pair is alone
-      clear-alone : crowded p.word (alias_set two n ws p.word) ≡ false → Alone ss p
+      clear-alone : crowded p.word (alias_set two n ws p.word) ≡ false → AloneAmong (length ss) ss p
       clear-alone clear i d li r =
           let z = (get_or ss i d).word in
           let hp = (pair_word n p.word high h).0 in
@@ -124,7 +126,7 @@ module _ (n : ℕ) (high : n ≤ 32) where
           ]
 
       -- so the test gives the byte
-      alone-byte : (b : Bool) → (b ≡ true) ↔ Alone ss p → cond b 1 0 ≡ clear_byte n ws p.word
+      alone-byte : (b : Bool) → (b ≡ true) ↔ AloneAmong (length ss) ss p → cond b 1 0 ≡ clear_byte n ws p.word
       alone-byte b d = elim (cases_Bool (crowded p.word (alias_set two n ws p.word))) [
         | inl c ↦ elim (cases_Bool b) [
           | inl y ↦ absurd (alone-clear (d.0 y) c)
@@ -134,7 +136,7 @@ module _ (n : ℕ) (high : n ≤ 32) where
       ]
 
     -- the pair at a place behind the letters
-    pub pair-byte : (j : ℕ) (d : Short) → j < length (pairs n) → (p : Short) → p ≡ get_or ss (n + j) d → (b : Bool) → (b ≡ true) ↔ Alone ss p → cond b 1 0 ≡ clear_byte n ws (get_or (pairs n) j 0)
+    pub pair-byte : (j : ℕ) (d : Short) → j < length (pairs n) → (p : Short) → p ≡ get_or ss (n + j) d → (b : Bool) → (b ≡ true) ↔ AloneAmong (length ss) ss p → cond b 1 0 ≡ clear_byte n ws (get_or (pairs n) j 0)
     pair-byte j d l p is b t =
         let lt : n + j < length ss = omega (arith, many, length-append (letters_from 0 n) (pairs n), letters_length 0 n) in
         let at : p.word ≡ get_or (pairs n) j 0 =
@@ -142,3 +144,22 @@ module _ (n : ℕ) (high : n ≤ 32) where
         ∙ ap (λ i. get_or (pairs n) i 0) (let s : n + j - n ≡ j = omega arith in s) in
         let lp : LeastAlias two n rows p.word p.least = subst (λ s. LeastAlias two n rows s.word s.least) (sym is) (least_at (n + j) d lt) in
         alone-byte p (j, l, sym at) lp b t ∙ ap (clear_byte n ws) at
+
+    -- so the bytes behind those of the letters are those of the pairs
+    pub told-bytes : (alone : List ℕ) → Told (length ss) (length ss) ss alone → length ss ≤ length alone → take (length ss - n) (drop n alone) ≡ map (clear_byte n ws) (pairs n)
+    told-bytes alone told room =
+        let all : length ss ≡ n + length (pairs n) = omega (arith, many, length-append (letters_from 0 n) (pairs n), letters_length 0 n) in
+        let k = length ss - n in
+        let d : Short = record { word = 0; least = 0 } in
+        let size : length (take k (drop n alone)) ≡ length (pairs n) = omega (arith, length-take k (drop n alone), length-drop n alone) in
+        same_number_lists (take k (drop n alone)) (map (clear_byte n ws) (pairs n)) (size ∙ sym (length-map (pairs n) (clear_byte n ws)))
+        (λ j l.
+        let lj : j < length (pairs n) = omega arith in
+        let p = get_or ss (n + j) d in
+        let at : get_or (take k (drop n alone)) j 0 ≡ get_or alone (n + j) 0 = get_or-take k (drop n alone) j 0 (omega arith) ∙ get_or-drop n alone j 0 in
+        at
+        ∙ elim (told (n + j) (omega arith) d) [
+          | inl y ↦ y.0 ∙ pair-byte j d lj p refl true ((λ t. y.1), (λ a. refl))
+          | inr y ↦ y.0 ∙ pair-byte j d lj p refl false ((λ t. absurd (both_ways false refl t)), (λ a. absurd (y.1 a)))
+        ]
+        ∙ sym (get_or-map (clear_byte n ws) (pairs n) j 0 0 lj))

@@ -14,13 +14,17 @@ use Rattle.levels.specs.Lawful.{lawful_two}
 use Rattle.levels.proofs.Masks.{xor_sum}
 use Rattle.levels.proofs.Sets.{generated_holds, holds_here, holds_there, holds_split}
 use Rattle.levels.proofs.Space.{sum_is, multiple_one, illegal_multiple, no_level_multiple, zero_times, vector_space}
-use Rattle.aliasing.specs.Runs.{all_even, is_run}
+use Rattle.aliasing.specs.Runs.{all_even, is_run, Run}
 use Rattle.aliasing.specs.Table.{odd, evens, legal_evens}
 use Rattle.aliasing.proofs.Parity.{odd_sum, odd_blank, all_even_bits}
 
 -- a legal code has no letter beyond factor n
 pub word_below : (n w : ℕ) → Word two n w → w < 2 ^ n
 word_below n w h = subst (λ k. w < 2 ^ k) (one-mul n) (word_legal two n w h).below
+
+-- a run is below 2 to the power of n
+pub run_below : (n : ℕ) (ws : List ℕ) (m x : ℕ) → Run n ws m x → x < 2 ^ n
+run_below n ws m x run = subst (λ k. x < 2 ^ k) (one-mul n) (word_legal two n x (and_parts _ _ run.runs).0).below
 
 -- a code without a letter beyond factor n is legal
 pub below_word : (n w : ℕ) → 1 ≤ n → n ≤ 32 → w < 2 ^ n → Word two n w

@@ -113,11 +113,11 @@ module _ (A : Arithmetic) (L : Lawful A) (n : ℕ) where
 
   module _ (rows : List ℕ) (e : Echelon A n rows) where
     -- a row is a word other than 0
-    row_word : (w : ℕ) → holds rows w ≡ true → Word A n w × (0 < w)
+    pub row_word : (w : ℕ) → holds rows w ≡ true → Word A n w × (0 < w)
     row_word w t = let p = holds_in rows w t in (subst (Word A n) p.2 (e.words p.0 p.1), subst (λ z. 0 < z) p.2 (e.nonzero p.0 p.1))
 
     -- a place lies between any two rows
-    rows-between : (u v : ℕ) → holds rows u ≡ true → holds rows v ≡ true → u < v → (k : ℕ) × (u < power A k) × (power A k ≤ v)
+    pub rows-between : (u v : ℕ) → holds rows u ≡ true → holds rows v ≡ true → u < v → (k : ℕ) × (u < power A k) × (power A k ≤ v)
     rows-between u v t t' l =
         let p = holds_in rows u t in
         let q = holds_in rows v t' in
@@ -142,7 +142,7 @@ module _ (A : Arithmetic) (L : Lawful A) (n : ℕ) where
 
     module _ (x : ℕ) (hx : Word A n x) where
       -- what holds each word of a list generates what the list does
-      held-generates : (us vs : List ℕ) → ((w : ℕ) → holds us w ≡ true → holds vs w ≡ true) → (g : ℕ) → Generates A n us g → Generates A n vs g
+      pub held-generates : (us vs : List ℕ) → ((w : ℕ) → holds us w ≡ true → holds vs w ≡ true) → (g : ℕ) → Generates A n us g → Generates A n vs g
       held-generates us vs held g =
           let V = space_at A L n x hx in
           generates_trans A L n V us vs g

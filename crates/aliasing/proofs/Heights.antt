@@ -49,7 +49,7 @@ module _ (A : Arithmetic) where
   digit k w = w / power k % 2 ^ A.bits
 
   -- the highest digit of a code is what is left of it above its place, and is not 0
-  digit_top : (k v : ℕ) → power k ≤ v → v < power (suc k) → (digit k v ≡ v / power k) × (0 < digit k v)
+  pub digit_top : (k v : ℕ) → power k ≤ v → v < power (suc k) → (digit k v ≡ v / power k) × (0 < digit k v)
   digit_top k v low high =
       let small : v / power k < 2 ^ A.bits = div_below v (power k) (2 ^ A.bits) (power_pos k) (omega (arith, next_power A k, mul_comm (power k) (2 ^ A.bits))) in
       let same : digit k v ≡ v / power k = mod-eq_of_lt small in
@@ -150,13 +150,13 @@ module _ (A : Arithmetic) (L : Lawful A) (n : ℕ) where
   multiple_low k c v lc hv l = rw (multiple_is A L n c v lc hv) (map_low A L c lc k n v (word_legal A n v hv).levels l)
 
   -- a digit of a word is a level
-  digit_level : (k a : ℕ) → k < n → Word A n a → digit A k a < A.s
+  pub digit_level : (k a : ℕ) → k < n → Word A n a → digit A k a < A.s
   digit_level k a l ha =
       subst (λ d. d < A.s) (digit_place A n a k l)
       (All-get_or (λ d. d < A.s) (digits A n a) k 0 (omega (arith, digits_length A n a)) (All-from_recursion (λ d. d < A.s) (digits A n a) (word_legal A n a ha).levels))
 
   -- the digit of a word and a multiple
-  digit_sum : (k a c v : ℕ) → k < n → Word A n a → Word A n v → c < A.s →
+  pub digit_sum : (k a c v : ℕ) → k < n → Word A n a → Word A n v → c < A.s →
       digit A k (word_sum A n a (word_multiple A n c v)) ≡ A.plus (digit A k a) (A.times c (digit A k v))
   digit_sum k a c v l ha hv lc =
       let m = word_multiple A n c v in

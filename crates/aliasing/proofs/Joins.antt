@@ -1,6 +1,5 @@
 -- One list after the other, all of one length: places, numbers and order.
-use Rattle.std.proofs.Common.{◌≡◌, ℕ, zero, suc, ◌+◌, ◌*◌, ◌/◌, ◌%◌, ◌<◌, ◌≤◌, Bool, true, false, cond, ltb, List, [], ◌∷◌, ◌++◌, length, get_or, sym, refl, ap, ◌∙◌, inl, inr, mul-le-mul_right, suc-mul, one-mul, zero-mul, arith, length-append}
-use mir.Val.{bool_byte}
+use Rattle.std.proofs.Common.{◌≡◌, ℕ, zero, suc, ◌+◌, ◌*◌, ◌/◌, ◌%◌, ◌<◌, ◌≤◌, Bool, true, ltb, List, [], ◌∷◌, ◌++◌, length, get_or, sym, refl, ap, ◌∙◌, inl, inr, mul-le-mul_right, suc-mul, one-mul, zero-mul, arith, length-append}
 use Rattle.std.specs.List.{flat_map}
 use Rattle.std.proofs.lemmas.Nat.{mod_below, div-add-mod'}
 use Rattle.std.proofs.lemmas.List.{get_or_append_left, get_or-append-add}
@@ -118,8 +117,3 @@ pub smaller_place : (xs : List ℕ) → Rising xs → (x m : ℕ) → In x xs �
 smaller_place xs r x m p e =
     let s : p.0 ≡ m = sym (rising_smaller xs r p.0 p.1) ∙ ap (λ z. how_many (λ y. ltb y z) xs) p.2 ∙ e in
     sym p.2 ∙ ap (λ i. get_or xs i 0) s
-
--- a test as a number
-pub byte_cond : (b : Bool) → bool_byte b ≡ cond b 1 0
-byte_cond true = refl
-byte_cond false = refl

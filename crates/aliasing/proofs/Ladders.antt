@@ -80,7 +80,7 @@ module _ (A : Arithmetic) (L : Lawful A) (n : ℕ) where
     block-length = distinct_length (sums_below A n A.s v y) sums-distinct ∙ sums-length
 
     -- a block ascends above the place of the row's highest digit
-    block-ordered : (k : ℕ) → k < n → power A k ≤ v → v < power A (suc k) → Ordered (Over A k) (block A n v y)
+    pub block-ordered : (k : ℕ) → k < n → power A k ≤ v → v < power A (suc k) → Ordered (Over A k) (block A n v y)
     block-ordered k l low high i j lt m =
         let B = block A n v y in
         let less = rising_places B (ascending_rising (sums_below A n A.s v y)) i j lt m in

@@ -57,7 +57,7 @@ odd_sum (suc n) x a b l =
     ∙ sym (ap₂ (λ c d. (c % 2 + d % 2) % 2) (ones_and x a) (ones_and x b))
 
 -- the common letters below a place and those from it on
-ones_block : (k x t : ℕ) → ones (bit_and x t) ≡ ones (bit_and (x / 2 ^ k) (t / 2 ^ k)) + ones (bit_and (x % 2 ^ k) (t % 2 ^ k))
+pub ones_block : (k x t : ℕ) → ones (bit_and x t) ≡ ones (bit_and (x / 2 ^ k) (t / 2 ^ k)) + ones (bit_and (x % 2 ^ k) (t % 2 ^ k))
 ones_block k x t =
     ap ones (sym (shr_split (bit_and x t) k))
     ∙ ones_cat k (bit_and x t / 2 ^ k) (bit_and x t % 2 ^ k) (mod_below (bit_and x t) (2 ^ k) (pow_pos k))

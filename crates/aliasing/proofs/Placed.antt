@@ -15,7 +15,7 @@ use Rattle.levels.proofs.Digits.{word_legal}
 use Rattle.levels.proofs.Generation.{generates_member, independent_before}
 use Rattle.levels.specs.Lawful.{lawful_two}
 use Rattle.levels.proofs.Space.{vector_space}
-use Rattle.aliasing.specs.Table.{odd, evens, legal_evens, empty_table, empty_below, placed, filled, Pivoted, Rows}
+use Rattle.aliasing.specs.Table.{odd, evens, legal_evens, empty_table, empty_below, placed, all_placed, Pivoted, Rows}
 use Rattle.aliasing.proofs.Parity.{odd_sum, odd_blank}
 use Rattle.aliasing.proofs.Evens.{word_below, below_word, sum_xor}
 
@@ -248,11 +248,11 @@ rows_more n ws T w r =
     (λ f. rows_illegal n ws T w r f)
 
 -- all words of a list more
-rows_filled : (n : ℕ) (done T ws : List ℕ) → Rows n done T → Rows n (done ++ ws) (filled n T ws)
-rows_filled n done T [] r = subst (λ us. Rows n us T) (sym (append-nil done)) r
-rows_filled n done T (w ∷ ws) r =
+rows_all_placed : (n : ℕ) (done T ws : List ℕ) → Rows n done T → Rows n (done ++ ws) (all_placed n T ws)
+rows_all_placed n done T [] r = subst (λ us. Rows n us T) (sym (append-nil done)) r
+rows_all_placed n done T (w ∷ ws) r =
     let T' = cond (legal two n w) (placed n 0 T w) T in
-    subst (λ us. Rows n us (filled n T' ws)) (append_assoc done (w ∷ []) ws) (rows_filled n (done ++ w ∷ []) T' ws (rows_more n done T w r))
+    subst (λ us. Rows n us (all_placed n T' ws)) (append_assoc done (w ∷ []) ws) (rows_all_placed n (done ++ w ∷ []) T' ws (rows_more n done T w r))
 
 -- an empty table has code 0 at each place
 blank_at : (p : ℕ) → get_or empty_table p 0 ≡ 0
@@ -269,8 +269,8 @@ empty_blank zero = refl
 empty_blank (suc n) = ap₂ (λ b k. cond b 1 0 + k) (eq-eqb (get_or empty_table n 0) 0 (blank_at n)) (empty_blank n) ∙ one-add n
 
 -- the table of a list of words
-pub rows_of : (n : ℕ) → 1 ≤ n → n ≤ 32 → (ws : List ℕ) → Rows n ws (filled n empty_table ws)
-rows_of n low high ws = rows_filled n [] empty_table ws (record {
+pub rows_of : (n : ℕ) → 1 ≤ n → n ≤ 32 → (ws : List ℕ) → Rows n ws (all_placed n empty_table ws)
+rows_of n low high ws = rows_all_placed n [] empty_table ws (record {
   table = record {
     size = refl;
     word = λ p. subst (Word two n) (sym (blank_at p)) (below_word n 0 low high (pow_pos n));

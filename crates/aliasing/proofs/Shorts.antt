@@ -1,9 +1,10 @@
 -- Words of one letter and of two: they are the two-level words of these lengths; and how many there are.
 use Rattle.std.proofs.Common.{◌≡◌, ℕ, zero, suc, ◌+◌, ◌-◌, ◌*◌, ◌/◌, ◌%◌, ◌^◌, ◌<◌, ◌≤◌, cond, eqb, List, [], ◌∷◌, ◌++◌, map, length, get_or, take, replicate, sym, refl, ap, ◌∙◌, subst, inl, inr, mul_assoc, mul_comm, one-mul, pow-suc, mul-zero, mul-one, mul-add, add-one, arith, length-append}
+use Rattle.std.proofs.Math.Nat.{mul-le-mul_left, mul-suc}
 use Rattle.std.proofs.lemmas.Nat.{pow_pos, mod_below}
-use Rattle.std.proofs.lemmas.List.{length-map, map-append, map_more, take_all, append_assoc, length-take-le}
+use Rattle.std.proofs.lemmas.List.{length-map, map-append, take_all, append_assoc, get_or-map}
 use Rattle.std.proofs.lemmas.List.Elements.{All-push}
-use Rattle.std.proofs.lemmas.Bool.{cases_eq}
+use Rattle.std.proofs.lemmas.Bool.{cases_eq, cases_lt}
 use Rattle.std.proofs.lemmas.Bool.Decides.{nat_tests}
 use Rattle.levels.specs.Arithmetic.{two}
 use Rattle.levels.specs.Words.{digits, code, nonzero, word_length}
@@ -12,9 +13,10 @@ use Rattle.levels.specs.Basis.{Echelon, LeastAlias}
 use Rattle.levels.proofs.Digits.{digits_fit, digits_length, code_digits, word_legal, legal_word}
 use Rattle.levels.proofs.Space.{zero_digits}
 use Rattle.levels.proofs.Lengths.{nonzero_none, nonzero_zeros, length_digits}
-use Rattle.levels.proofs.Places.{In, in_left, in_right, in_append, in_map, in_map_from}
+use Rattle.levels.proofs.Places.{In, Distinct, distinct_append, distinct_map, in_left, in_right, in_append, in_map, in_map_from}
 use Rattle.levels.proofs.Ascending.{in_here, in_later, in_cons, in_none}
 use Rattle.aliasing.specs.Clear.{letter, pair, pairs_with, pairs_from, pairs}
+use Rattle.aliasing.specs.Buckets.{Different}
 use Rattle.aliasing.specs.declared.clear.Short.{Short}
 use Rattle.aliasing.specs.Short.{letters_from, short_words, LeastAliases}
 
@@ -261,9 +263,51 @@ pairs_with_next i j n l = ap (pairs_with i j) (let e : n - j ≡ suc (n - (j + 1
 pub short_length : (n : ℕ) (ss : List Short) → map (λ s. s.word) ss ≡ short_words n → length ss ≡ n + length (pairs n)
 short_length n ss words = omega (arith, ap length words, length-map ss (λ s. s.word), length-append (letters_from 0 n) (pairs n), letters_length 0 n)
 
--- one byte more: there is room for it
-pub bytes_more : (f : ℕ → ℕ) (ps : List ℕ) → length ps ≤ 496 → (i byte : ℕ) (old new : List ℕ) → i < length ps → byte ≡ f (get_or ps i 0) → new ≡ take 496 (old ++ byte ∷ []) →
-    old ≡ map f (take i ps) → new ≡ map f (take (i + 1) ps)
-bytes_more f ps few i byte old new l value pushed before =
-    let more : old ++ byte ∷ [] ≡ map f (take (i + 1) ps) = ap (λ xs. xs ++ byte ∷ []) before ∙ ap (λ x. map f (take i ps) ++ x ∷ []) value ∙ sym (map_more f ps i 0 l) in
-    pushed ∙ ap (take 496) more ∙ take_all 496 (map f (take (i + 1) ps)) (omega (arith, length-map (take (i + 1) ps) f, length-take-le (i + 1) ps (omega arith)))
+-- an odd multiple of a power of 2 is no even one
+odd_even : (i x y : ℕ) → 2 ^ i + 2 ^ suc i * x ≡ 2 ^ suc i * y → ⊥
+odd_even i x y e =
+    let p = 2 ^ i in
+    let pos = pow_pos i in
+    let d = pow-suc 2 i in
+    let left : 2 ^ suc i * x ≡ 2 * (p * x) = ap (λ q. q * x) d ∙ mul_assoc p 2 x ∙ ap (λ q. p * q) (mul_comm 2 x) ∙ sym (mul_assoc p x 2) ∙ mul_comm (p * x) 2 in
+    let right : 2 ^ suc i * y ≡ 2 * (p * y) = ap (λ q. q * y) d ∙ mul_assoc p 2 y ∙ ap (λ q. p * q) (mul_comm 2 y) ∙ sym (mul_assoc p y 2) ∙ mul_comm (p * y) 2 in
+    elim (cases_lt x y) [
+      | inl lt ↦ let more : p * suc x ≤ p * y = mul-le-mul_left p lt in omega (arith, mul-suc p x)
+      | inr le ↦ let more : p * y ≤ p * x = mul-le-mul_left p le in omega arith
+    ]
+
+-- no letter stands at two places
+letters_distinct : (i k : ℕ) → Distinct (letters_from i k)
+letters_distinct i zero = λ a b la lb e. absurd (omega arith)
+letters_distinct i (suc k) =
+    distinct_append (letter i ∷ []) (letters_from (suc i) k) (λ a b la lb e. omega arith) (letters_distinct (suc i) k)
+    (λ x p q. elim (in_cons (letter i) x [] p) [
+      | inl e ↦ let h = letters_are (suc i) k x q in odd_even i 0 h.rest (let v = h.value in omega (arith, mul-zero (2 ^ suc i)))
+      | inr n ↦ in_none x n
+    ])
+
+-- nor a pair
+pairs_distinct : (i k : ℕ) → Distinct (pairs_from i k)
+pairs_distinct i zero = λ a b la lb e. absurd (omega arith)
+pairs_distinct i (suc k) =
+    distinct_append (pairs_with i (suc i) k) (pairs_from (suc i) k)
+    (rw (pairs_with_map i (suc i) k) (distinct_map (λ l. letter i + l) (letters_from (suc i) k) (letters_distinct (suc i) k) (λ a b p q e. omega arith)))
+    (pairs_distinct (suc i) k)
+    (λ x p q.
+    let r = in_map_from (λ l. letter i + l) (letters_from (suc i) k) x (rw (pairs_with_map i (suc i) k) at p) in
+    let l = letters_are (suc i) k r.0 r.1 in
+    let h = pairs_are (suc i) k x q in
+    odd_even i l.rest h.rest (ap (λ y. 2 ^ i + y) (sym l.value) ∙ sym r.2 ∙ h.value))
+
+-- no word of one letter or two stands at two places
+pub short_distinct : (n : ℕ) → n ≤ 32 → Distinct (short_words n)
+short_distinct n high =
+    distinct_append (letters_from 0 n) (pairs n) (letters_distinct 0 n) (pairs_distinct 0 n)
+    (λ x p q. let a = (letter_word n x high p).1 in let b = (pair_word n x high q).1 in omega arith)
+
+-- so a list of them has different words
+pub short_different : (n : ℕ) → n ≤ 32 → (ss : List Short) → map (λ s. s.word) ss ≡ short_words n → Different ss
+short_different n high ss words i j d li lj e =
+    let all : length ss ≡ length (short_words n) = sym (length-map ss (λ s. s.word)) ∙ ap length words in
+    let at : (m : ℕ) → m < length ss → (get_or ss m d).word ≡ get_or (short_words n) m 0 = λ m l. sym (get_or-map (λ s. s.word) ss m d 0 l) ∙ ap (λ xs. get_or xs m 0) words in
+    short_distinct n high i j (omega arith) (omega arith) (sym (at i li) ∙ e ∙ at j lj)

@@ -1,5 +1,7 @@
 pub mod Blocks
+pub mod Buckets
 pub mod Clear
+pub mod Filled
 pub mod Members
 pub mod Pairs
 pub mod Pattern

@@ -1,5 +1,5 @@
--- Words of one and of two letters, and those that no other shares an alias set with.
-use Rattle.std.specs.Prelude.{◌≡◌, ℕ, zero, suc, List, [], ◌∷◌, ◌++◌, All}
+-- Words of one and of two letters, with their least aliases.
+use Rattle.std.specs.Prelude.{ℕ, zero, suc, List, [], ◌∷◌, ◌++◌, All}
 use Rattle.levels.specs.Arithmetic.{two}
 use Rattle.levels.specs.Space.{Word}
 use Rattle.levels.specs.Basis.{Echelon, LeastAlias}
@@ -18,7 +18,3 @@ short_words n = letters_from 0 n ++ pairs n
 -- each word of a list stands with its least alias over rows
 abbrev pub LeastAliases : ℕ → List ℕ → List Short → Type 0
 LeastAliases n rows ss = All (λ s. Echelon two n rows → Word two n s.word → LeastAlias two n rows s.word s.least) ss
-
--- no word of a list other than this has the same least alias
-abbrev pub Alone : List Short → Short → Type 0
-Alone ss p = All (λ s. s.least ≡ p.least → s.word ≡ p.word) ss

@@ -37,9 +37,9 @@ placed (suc k) p T w =
     (cond (slice_index T p == 0) (slice_set T p w) (placed k (suc p) T (bit_xor w (slice_index T p))))
 
 -- the legal words of a list put into a table
-abbrev pub filled : ℕ → List ℕ → List ℕ → List ℕ
-filled n T [] = T
-filled n T (w ∷ ws) = filled n (cond (legal two n w) (placed n 0 T w) T) ws
+abbrev pub all_placed : ℕ → List ℕ → List ℕ → List ℕ
+all_placed n T [] = T
+all_placed n T (w ∷ ws) = all_placed n (cond (legal two n w) (placed n 0 T w) T) ws
 
 -- one binary digit for each word, the lowest first
 abbrev pub block_bits : ℕ → List ℕ → ℕ

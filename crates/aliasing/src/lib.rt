@@ -1,6 +1,5 @@
 // What is read off the words of a plan: pattern, alias sets, clear pairs, runs and blocks.
 // n and the words stay two parameters here: the struct that holds both is the plan, in the crate above.
-// as: From has neither usize to u64 nor a narrower number.
 #![tactic(auto)]
 
 pub mod clear;

@@ -10,7 +10,8 @@ use std::array;
 // How many lengths there are: a word has at most 32 factors.
 pub const LENGTHS: usize = 32;
 
-// The counts of lengths 1 to 32 of what at most 16 words generate.
+// The counts of lengths 1 to 32 of what at most 16 words generate. The number of words is a premise, here and below: a slice of any
+// length is taken, and a type with a limit would ask more. The array is full, with 0 above n.
 pub fn pattern<L: Levels>(n: u8, words: &[u64]) -> [u32; LENGTHS]
     ensures counts { length words.now ≤ 16 → (i : ℕ) → i < 32 → slice_index result i ≡ count L.Levels.model (generated L.Levels.model n words.now) (suc i) }
     ensures front { length words.now ≤ 16 → n ≤ 32 → take n result ≡ Pattern L.Levels.model n (generated L.Levels.model n words.now) }
@@ -42,6 +43,7 @@ pub fn resolution<L: Levels>(n: u8, words: &[u64]) -> Option<(u32, u32)>
     // A loop: no proof was found with `(1..).zip(counts)` and `find`.
     for (place, count) in counts.iter().enumerate() {
         if *count > 0 {
+            // as: From has no such pair, and TryFrom would bring an error that cannot come.
             return Some((place as u32 + 1, *count));
         }
     }

@@ -1,16 +1,21 @@
 // Runs of a two-level trial, and the blocks that they fall into.
-ghost use Rattle.std.specs.Prelude.{◌≡◌, ℕ, ◌-◌, ◌%◌, ◌^◌, ◌<◌, ◌≤◌, true, List, length, MatchOption, ◌==◌};
+ghost use Rattle.std.specs.Prelude.{◌≡◌, ℕ, suc, ◌-◌, ◌%◌, ◌^◌, ◌<◌, ◌≤◌, min, true, List, length, take, drop, MatchOption, ◌==◌, slice_index};
 ghost use Rattle.levels.specs.Arithmetic.{two};
 ghost use Rattle.levels.specs.Words.{legal};
 ghost use Rattle.levels.specs.Space.{AllWords};
 ghost use Rattle.levels.specs.Generated.{generated, Independent};
-ghost use Rattle.aliasing.specs.Runs.{block_number, is_run, letters_at_one, Run, runs_below};
-ghost use Rattle.aliasing.specs.Table.{empty_below, empty_table, filled, odd, placed, Rows};
+ghost use Rattle.aliasing.specs.Filled.{filled};
+ghost use Rattle.aliasing.specs.Runs.{block_number, is_run, letters_at_one, Run, runs_below, runs_upto};
+ghost use Rattle.aliasing.specs.Table.{all_placed, empty_below, empty_table, odd, placed, Rows};
 
 use levels::{Levels, TwoLevels};
+use std::array;
 
 // A block number has one binary digit for each of so many words.
 const BLOCK_WORDS: usize = 16;
+
+// The number of a run, or of the place past the last, ends in at most 32 zeros in binary.
+const STEPS: usize = 33;
 
 // Run m, from 0, of n factors under a list of words, in ascending code; absent past the last.
 pub fn run(n: u8, words: &[u64], m: u64) -> Option<u64>
@@ -22,6 +27,22 @@ pub fn run(n: u8, words: &[u64], m: u64) -> Option<u64>
         return None;
     }
     Table::new(n, words).run(m)
+}
+
+// Writes the runs from a place on, in ascending code, as many as there are and the memory takes; tells how many.
+pub fn fill_runs(n: u8, words: &[u64], first: u64, memory: &mut [u64]) -> usize
+    ensures count { result ≡ min (length (drop first (runs_upto n (generated two n words.now) (2 ^ n)))) (length memory.old) }
+    ensures stored { memory.new ≡ filled (drop first (runs_upto n (generated two n words.now) (2 ^ n))) memory.old }
+{
+    if !(1..=32).contains(&n) {
+        return 0;
+    }
+    let table = Table::new(n, words);
+    let runs = 1u64 << table.free_factors();
+    // as: From has no such pair, and TryFrom would bring an error that cannot come.
+    let count = memory.len().min(runs.saturating_sub(first) as usize);
+    table.fill(first, &mut memory[..count]);
+    count
 }
 
 // Whether an odd number of a word's letters are at level 1 in a run.
@@ -55,11 +76,11 @@ struct Table {
 }
 
 impl Table {
-    // The table of a list of words. Illegal words are skipped.
+    // The table of a list of words. Illegal words are skipped. The range of n is asked, as the callers have tested it.
     fn new(n: u8, words: &[u64]) -> Table
         requires { n ≤ 32 }
         ensures factors { result.factors ≡ n }
-        ensures rows { result.rows ≡ filled n empty_table words.now }
+        ensures rows { result.rows ≡ all_placed n empty_table words.now }
     {
         let mut table = Table {
             factors: n,
@@ -98,6 +119,7 @@ impl Table {
         ensures count { result ≡ empty_below self.now.rows self.now.factors }
         ensures few { result ≤ 32 }
     {
+        // as: From has no such pair, and TryFrom would bring an error that cannot come.
         self.rows[..usize::from(self.factors)]
             .iter()
             .filter(|row| **row == 0)
@@ -128,5 +150,37 @@ impl Table {
             }
         }
         Some(code)
+    }
+
+    // Writes the runs from a place on, in ascending code. There are as many as the memory takes.
+    fn fill(&self, first: u64, memory: &mut [u64])
+        requires { length memory.old ≤ 2 ^ empty_below self.now.rows self.now.factors - first }
+        ensures { (ws : List ℕ) → 1 ≤ self.now.factors → Rows self.now.factors ws self.now.rows → memory.new ≡ take (length memory.old) (drop first (runs_upto self.now.factors (generated two self.now.factors ws) (2 ^ self.now.factors))) }
+    {
+        let Some(mut run) = self.run(first) else {
+            return;
+        };
+        let steps = self.steps();
+        for (i, place) in memory.iter_mut().enumerate() {
+            *place = run;
+            // as, here and below: From has no such pair, and TryFrom would bring an error that cannot come.
+            let next = first + i as u64 + 1;
+            run ^= steps[next.trailing_zeros() as usize];
+        }
+    }
+
+    // What is added to a run to give the next, by the zeros in which the next one's number ends in binary.
+    fn steps(&self) -> [u64; STEPS]
+        ensures { (ws : List ℕ) → 1 ≤ self.now.factors → Rows self.now.factors ws self.now.rows → (t : ℕ) → t < empty_below self.now.rows self.now.factors → Run self.now.factors (generated two self.now.factors ws) (2 ^ suc t - 1) (slice_index result t) }
+    {
+        array::from_fn(|zeros| self.step(zeros))
+    }
+
+    // What is added to the run before one whose number ends in so many zeros: run 2^(zeros + 1) − 1; code 0 past the last.
+    fn step(&self, zeros: usize) -> u64
+        requires { zeros < 33 }
+        ensures { (ws : List ℕ) → 1 ≤ self.now.factors → Rows self.now.factors ws self.now.rows → zeros < empty_below self.now.rows self.now.factors → Run self.now.factors (generated two self.now.factors ws) (2 ^ suc zeros - 1) result }
+    {
+        self.run((2 << zeros) - 1).unwrap_or(0)
     }
 }

@@ -1,5 +1,4 @@
 // The trial page of a settled plan.
-// as: From has neither usize to u64 nor a narrower number.
 #![tactic(auto)]
 
 ghost use Rattle.std.specs.Prelude.{◌≡◌, ◌≤◌, length};

@@ -61,7 +61,7 @@ impl Sheet {
     fn print_clear<L: Levels>(&mut self, plan: &SettledPlan<L>)
         ensures { written self.new ≡ take 2048 (written self.old ++ clear_line L.Levels.model plan.now) }
     {
-        // The line is of two levels alone, whatever the type.
+        // By the number of levels: the page has this line with two levels alone, a rule of the project.
         if L::LEVELS == 2 {
             self.numbers(b"clear", &[clear_count::<L>(plan)]);
         }
@@ -72,6 +72,7 @@ impl Sheet {
 fn clear_count<L: Levels>(plan: &SettledPlan<L>) -> u32
     ensures { result ≡ ones_in (clear_bytes plan.now.factors plan.now.defining) }
 {
+    // as: From has no such pair, and TryFrom would bring an error that cannot come.
     clear(plan.factors(), plan.list(Side::Defining)).ones() as u32
 }
 
@@ -81,6 +82,7 @@ pub(crate) fn printed<L: Levels>(plan: &SettledPlan<L>) -> Sheet
 {
     let mut sheet = Sheet::new();
     let (defining, block) = plan.counts();
+    // as: From has no such pair, and TryFrom would bring an error that cannot come.
     sheet.print_head::<L>(plan.factors(), defining as u32, block as u32);
     sheet.print_resolution::<L>(plan);
     sheet.print_pattern::<L>(plan);

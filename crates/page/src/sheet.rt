@@ -92,13 +92,14 @@ impl Sheet {
         let base = 1u64 << L::BITS;
         let mut rest = code;
         for i in 0..plan.factors() {
+            // as: From has no such pair, and TryFrom would bring an error that cannot come.
             self.digit(i, (rest % base) as u8);
             rest /= base;
         }
     }
 
     // A line of a label and words of a plan. It has the loop of `numbers`: a trait for what stands behind the space, with
-    // its two impls, would be longer than the two loops.
+    // its two impls, or a closure that writes it into the sheet, with the contract of both, would be longer than the two loops.
     pub(crate) fn words<L: Levels>(&mut self, label: &[u8], plan: &SettledPlan<L>, words: &[u64])
         ensures { written self.new ≡ take 2048 (written self.old ++ line label.now (fields (shown L.Levels.model plan.now.factors) words.now)) }
     {

@@ -1,12 +1,10 @@
 -- The answers about runs and blocks, from what is read off lists of words.
-use Rattle.std.proofs.Common.{◌≡◌, ℕ, zero, suc, ◌^◌, ◌<◌, ◌≤◌, true, ltb, List, [], ◌∷◌, length, get_or, Option, Some, None, MatchOption, ok_or, Ok, Err, sym, ap, ◌∙◌, subst, one-mul, arith}
-use Rattle.std.proofs.lemmas.Bool.{and_parts, lt-ltb, le-ltb, cond-true, cond-false}
-use Rattle.levels.specs.Arithmetic.{Arithmetic, two}
-use Rattle.levels.specs.Space.{AllWords}
+use Rattle.std.proofs.Common.{◌≡◌, ℕ, ◌^◌, ◌<◌, ◌≤◌, ltb, List, length, get_or, Option, Some, None, MatchOption, ok_or, Ok, Err, sym, ap, ◌∙◌, subst}
+use Rattle.std.proofs.lemmas.Bool.{lt-ltb, le-ltb, cond-true, cond-false}
+use Rattle.levels.specs.Arithmetic.{two}
 use Rattle.levels.specs.Generated.{generated}
-use Rattle.levels.proofs.Digits.{word_legal}
-use Rattle.preferences.specs.Relation.{all_legal}
 use Rattle.aliasing.specs.Runs.{Run, runs_below, runs_upto}
+use Rattle.aliasing.proofs.Evens.{run_below}
 use Rattle.aliasing.proofs.Listed.{upto_length, run_entry}
 use Rattle.contents.specs.declared.refusal.Refusal.TheVariants.{Last}
 use Rattle.plan.specs.Answers.{entry}
@@ -17,10 +15,6 @@ entry_at xs m x l e = ap Ok (sym e) ∙ sym (cond-true (ltb m (length xs)) (Ok (
 
 pub entry_past : (xs : List ℕ) (m : ℕ) → length xs ≤ m → Err Last ≡ entry xs m
 entry_past xs m l = sym (cond-false (ltb m (length xs)) (Ok (get_or xs m 0)) (Err Last) (le-ltb m (length xs) l))
-
--- a run is below 2 to the power of n
-run_below : (n : ℕ) (ws : List ℕ) (m x : ℕ) → Run n ws m x → x < 2 ^ n
-run_below n ws m x run = subst (λ k. x < 2 ^ k) (one-mul n) (word_legal two n x (and_parts _ _ run.runs).0).below
 
 -- run m, or a refusal past the last
 run_is : (n : ℕ) (ws : List ℕ) (m : ℕ) (o : Option ℕ) → MatchOption o (runs_below n (generated two n ws) (2 ^ n) ≤ m) (λ x. Run n (generated two n ws) m x) → ok_or o Last ≡ entry (runs_upto n (generated two n ws) (2 ^ n)) m
@@ -33,9 +27,3 @@ run_is n ws m (Some x) run =
 -- the same of factors and words that were read off the plan
 pub run_answer : (n k : ℕ) (ws vs : List ℕ) (m : ℕ) (o : Option ℕ) → k ≡ n → vs ≡ ws → MatchOption o (runs_below k (generated two k vs) (2 ^ k) ≤ m) (λ x. Run k (generated two k vs) m x) → ok_or o Last ≡ entry (runs_upto n (generated two n ws) (2 ^ n)) m
 run_answer n k ws vs m o f e found = run_is n ws m o (rw (← f, ← e) found)
-
--- a list that passes the test has words at all its places
-pub all_words : (A : Arithmetic) (n : ℕ) (ws : List ℕ) → all_legal A n ws ≡ true → AllWords A n ws
-all_words A n [] t i l = absurd (omega arith)
-all_words A n (w ∷ ws) t zero l = (and_parts _ _ t).0
-all_words A n (w ∷ ws) t (suc i) l = all_words A n ws (and_parts _ _ t).1 i (omega arith)

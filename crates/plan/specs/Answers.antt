@@ -39,9 +39,13 @@ entry xs m = cond (nat_lt m (length xs)) (Ok (slice_index xs m)) (Err Last)
 abbrev pub alias_member : Arithmetic → ℕ → ℕ → Content → Result ℕ Refusal
 alias_member A w m p = cond (legal A p.factors w) (entry (alias_set A p.factors p.defining w) m) (Err Illegal)
 
--- with two levels, run m, in ascending code: every word that the defining words generate has an even number of its letters at level 1
+-- with two levels, the runs, in ascending code: every word that the defining words generate has an even number of its letters at level 1
+abbrev pub runs_of : Content → List ℕ
+runs_of p = runs_upto p.factors (generated two p.factors p.defining) (2 ^ p.factors)
+
+-- run m
 abbrev pub run_of : ℕ → Content → Result ℕ Refusal
-run_of m p = entry (runs_upto p.factors (generated two p.factors p.defining) (2 ^ p.factors)) m
+run_of m p = entry (runs_of p) m
 
 -- with two levels, the block number of a run under a list of words: the run is legal, the list is within the limit, its words are legal
 abbrev pub block_of : ℕ → List ℕ → Content → Result ℕ Refusal

@@ -44,6 +44,7 @@ impl<L: Levels> OpenPlan<L> {
     }
 
     // One word more at the end of one list.
+    // A side and a word or a place stand apart, here and in `strike` and `word`: that is how the rules name a call.
     pub fn admit(&mut self, side: Side, word: u64) -> Result<(), Refusal>
         ensures { Acts (admitted L.Levels.model side word self.old) self.old self.new result }
     {

@@ -1,9 +1,11 @@
 // What is read off the words of a settled plan.
-ghost use Rattle.std.specs.Prelude.{◌≡◌, ◌≤◌, length};
+ghost use Rattle.std.specs.Prelude.{◌≡◌, ◌≤◌, min, length, drop};
 ghost use Rattle.levels.specs.Generated.{generated};
 ghost use Rattle.aliasing.specs.Clear.{clear_bytes};
+ghost use Rattle.aliasing.specs.Filled.{filled};
 ghost use Rattle.aliasing.specs.Pattern.{pattern, resolution};
-ghost use Rattle.plan.specs.Answers.{alias_member, block_of, defined, run_of, wrote_ones};
+ghost use Rattle.plan.specs.Answers.{alias_member, block_of, defined, run_of, runs_of, wrote_ones};
+ghost use Rattle.plan.specs.Filled.{aliases_of, fill_count, fill_left};
 ghost use Rattle.contents.specs.Memory.{holding, wrote};
 
 use crate::settled::SettledPlan;
@@ -42,6 +44,18 @@ impl<L: Levels> SettledPlan<L> {
         }
         members::alias_member::<L>(n, self.list(Side::Defining), word, m).ok_or(Refusal::Last)
     }
+
+    // Writes the aliases of a word over the defining words, in ascending code, as many as there is room for.
+    pub fn aliases(&self, word: u64, memory: &mut [u64]) -> Result<usize, Refusal>
+        ensures count { result ≡ fill_count (aliases_of L.Levels.model word self.now) memory.old }
+        ensures stored { memory.new ≡ fill_left (aliases_of L.Levels.model word self.now) memory.old }
+    {
+        let n = self.factors();
+        if !L::legal(n, word) {
+            return Err(Refusal::Illegal);
+        }
+        Ok(members::fill_aliases::<L>(n, self.list(Side::Defining), word, memory))
+    }
 }
 
 impl SettledPlan<TwoLevels> {
@@ -61,6 +75,14 @@ impl SettledPlan<TwoLevels> {
         ensures { result ≡ run_of m self.now }
     {
         runs::run(self.factors(), self.list(Side::Defining), m).ok_or(Refusal::Last)
+    }
+
+    // Writes the runs from a place on, in ascending code, as many as there are and the memory takes; tells how many.
+    pub fn runs(&self, first: u64, memory: &mut [u64]) -> usize
+        ensures count { result ≡ min (length (drop first (runs_of self.now))) (length memory.old) }
+        ensures stored { memory.new ≡ filled (drop first (runs_of self.now)) memory.old }
+    {
+        runs::fill_runs(self.factors(), self.list(Side::Defining), first, memory)
     }
 
     // The block number of a run under a list of words.

@@ -9,7 +9,8 @@ use contents::{PlanContent, Refusal, Side, store};
 use levels::Levels;
 use std::marker::{Model, PhantomData};
 
-// It has the fields of an open plan, and a type of its own: only a settled plan answers, and only an open one changes.
+// It has the fields of an open plan, and a type of its own: only a settled plan answers, and only an open one changes. One type with a
+// marker for its state would keep that too, but each method would stand in the impl of one marker: no plainer.
 #[derive(Drop)]
 pub struct SettledPlan<L: Levels> {
     pub(crate) levels: PhantomData<L>,
