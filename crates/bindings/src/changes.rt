@@ -13,7 +13,8 @@ use crate::outcome::Outcome;
 use contents::{Refusal, Side};
 use levels::Levels;
 
-// Three functions and not one over a closure: a bound on a closure that takes a `&mut` to a struct with a model is refused.
+// Three functions and not one over a closure: a bound on a closure that takes a `&mut` to a struct with a model is refused, and a
+// closure that takes a plan and gives it back would be as long as each body here.
 
 // The file of a file's plan with n factors and no words.
 fn start<L: Levels>(file: &[u8], n: u8, memory: &mut [u8]) -> Result<usize, Refusal>
@@ -51,6 +52,7 @@ fn strike<L: Levels>(
 }
 
 // The file of a file's plan as it was read.
+// Like the questions of questions.rt: one line, with its contract at any levels.
 fn write<L: Levels>(file: &[u8], memory: &mut [u8]) -> Result<usize, Refusal>
     ensures count { result ≡ told (read_file L.Levels.model file.now) (file_of L.Levels.model) memory.old }
     ensures stored { memory.new ≡ left (read_file L.Levels.model file.now) (file_of L.Levels.model) memory.old }

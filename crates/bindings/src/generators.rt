@@ -14,6 +14,7 @@ use levels::Levels;
 use preferences::Preference;
 
 // By any preference.
+// Like the questions of questions.rt: one line, with its contract at any levels.
 fn choose<L: Levels, P: Preference<L>>(
     file: &[u8],
     side: Side,

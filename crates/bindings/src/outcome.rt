@@ -32,6 +32,7 @@ impl From<Result<usize, Refusal>> for Outcome {
     ghost from_gives = { λ answer outcome. outcome ≡ outcome_of answer };
 
     fn from(answer: Result<usize, Refusal>) -> Outcome {
+        // as: From has no such pair, and TryFrom would bring an error that cannot come.
         Outcome::from(answer.map(|length| length as u64))
     }
 }

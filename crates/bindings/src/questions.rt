@@ -14,6 +14,9 @@ use crate::outcome::Outcome;
 use contents::{Refusal, Side};
 use levels::Levels;
 
+// One private function for each question, with its contract at any levels: a macro or a closure in its place would have none, and the
+// body is one line.
+
 // The number of factors of a file's plan.
 fn factors<L: Levels>(file: &[u8]) -> Result<u64, Refusal>
     ensures { result ≡ asked (read_file L.Levels.model file.now) factors_of }
@@ -43,7 +46,8 @@ fn pattern<L: Levels>(file: &[u8], memory: &mut [u32]) -> Result<usize, Refusal>
     settle::<L>(file)?.pattern(memory)
 }
 
-// Two functions for the resolution: C asks for its halves apart, since it has no pairs.
+// Two functions for the resolution: C asks for its halves apart, since it has no pairs, and 0 stands for no resolution, since it
+// has no Option; one over a closure would leave a closure as long as each body.
 
 // The length of the resolution, or 0.
 fn resolution<L: Levels>(file: &[u8]) -> Result<u64, Refusal>

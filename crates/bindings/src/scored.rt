@@ -14,6 +14,7 @@ use levels::Levels;
 use preferences::{Cheapest, Scored, Shortest};
 
 // By any scored preference.
+// Like the questions of questions.rt: one line, with its contract at any levels.
 fn choose_scored<L: Levels, P: Scored<L>>(
     file: &[u8],
     side: Side,

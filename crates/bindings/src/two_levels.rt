@@ -12,6 +12,8 @@ use crate::outcome::Outcome;
 use contents::Refusal;
 use levels::TwoLevels;
 
+// One private function for each question, as in questions.rt: one line, with its contract.
+
 // The clear pairs of a file's plan.
 fn clear(file: &[u8], memory: &mut [u8]) -> Result<usize, Refusal>
     ensures count { result ≡ asked (read_file two file.now) (clear_count memory.old) }

@@ -23,7 +23,7 @@ pub fn page_of_file<L: Levels>(file: &[u8], memory: &mut [u8]) -> Result<usize, 
 pub fn trial_page(file: &[u8], memory: &mut [u8]) -> Result<usize, Refusal>
     ensures { PageOfFile (levels_of file.now) file.now memory.old memory.new result }
 {
-    // The byte of the file is a number.
+    // The byte of the file is a number, and this is the only place of the crate that goes by it: a macro would be longer.
     match file.get(5) {
         Some(3) => page_of_file::<ThreeLevels>(file, memory),
         _ => page_of_file::<TwoLevels>(file, memory),

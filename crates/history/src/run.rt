@@ -39,6 +39,7 @@ fn step<L: Levels>(trial: Trial<L>, call: Call<'_>) -> Option<Trial<L>>
 }
 
 // One call on an open plan.
+// By the kinds of a call, here and below: calls are data, since the law speaks of every list of them.
 fn step_open<L: Levels>(mut plan: OpenPlan<L>, call: Call<'_>) -> Option<Trial<L>>
     ensures { option_map working_of result ≡ of_open L.Levels.model (meant call.entry) plan }
 {
@@ -63,6 +64,7 @@ fn step_settled<L: Levels>(plan: SettledPlan<L>, call: Call<'_>) -> Option<Trial
             ask(&plan, question);
             Some(Trial::Settled(plan))
         }
+        // Each by name: these change an open plan alone.
         Call::Start(_) | Call::Read(_) | Call::Admit(..) | Call::Strike(..) | Call::Settle => None,
     }
 }

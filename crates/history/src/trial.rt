@@ -17,6 +17,7 @@ impl<L: Levels> Trial<L> {
     pub(crate) fn into_settled(self) -> Option<SettledPlan<L>>
         ensures { result ≡ settled_content (Some (working_of self)) }
     {
+        // No `if let`: it is no shorter.
         match self {
             Trial::Settled(plan) => Some(plan),
             Trial::Open(_) => None,

@@ -11,6 +11,7 @@ const PAGE: usize = 1024;
 fn main(rt: HostRuntime) -> io::Result<()> {
     let mut file = Vec::new(rt.alloc());
     rt.stdin().read_to_end(&mut file)?;
+    // An array: the page goes into memory that is lent.
     let mut memory = [0; PAGE];
     match trial_page(&file, &mut memory) {
         Ok(len) => rt.stdout().write_all(&memory[..len]),
