@@ -61,6 +61,25 @@ def functions():
             i = max(j, i) + 1
 
 
+def lemmas(text):
+    """How many lemmas stand in a file of proofs, those in its modules too."""
+    depths, count = [0], 0
+    for line in text:
+        code = line.split("--")[0].rstrip()
+        if not code:
+            continue
+        depth = len(code) - len(code.lstrip())
+        while depth < depths[-1]:
+            depths.pop()
+        if depth != depths[-1]:
+            continue
+        if re.match(r"\s*module ", code):
+            depths.append(depth + 2)
+        elif re.match(r"\s*(pub )?[\w'-]+ (\(.*\) |\{.*\} )*:", code):
+            count += 1
+    return count
+
+
 KEEP = set("let mut if else for in match return while loop break fn self Some None Ok Err true false as ref".split())
 
 
@@ -72,7 +91,7 @@ def shape(body):
 lines("1a numbers for kinds", r"\b(levels|side|preference|number): u8\b")
 lines("1b numbers carried by types", r"\bExactly\b|: Number\b|\btype (Count|Width|Most)\b")
 lines("1c Option and Result taken apart by hand, sentinels",
-      r"=> (None|Err\(refusal\)),|None => Err|Err\(_\) => return|unreachable\(\)|Some\((plan|code)\) => |None => break|== floor")
+      r"=> (return )?(None|Err\(refusal\)),|None => Err|Err\(_\) => return|unreachable\(\)|Some\((plan|code)\) => |None => break|== floor")
 
 groups = collections.defaultdict(list)
 facts = collections.defaultdict(list)
@@ -98,10 +117,10 @@ show("5a facts that three functions or more require",
 lines("5b clauses that name a plan's private field", r"^\s*(requires|ensures).*\.held\b")
 lines("5c a preference, the factors and a base list handed on together", r"preference, n, base")
 lines("6 arrays", r"\[(0|u(8|16|32|64)); ")
-lines("7 switches on a kind", r"if (levels|preference) == |match (rule|side|call|question)\b")
+lines("7 switches on a kind",
+      r"if \$?(levels|preference) == |if L::LEVELS(\.get\(\))? == |file\[5\] == |match (\$?(rule|side|call|question|trial)|file\.get\(5\)) \{")
 proofs = [p for p in glob.glob("crates/*/proofs/**/*.antt", recursive=True)]
 text = {p: open(p).read().split("\n") for p in proofs}
 print("8a lines of proof", sum(len(t) - 1 for t in text.values()))
 print("8b answers", sum(1 for p, t in text.items() for l in t if p.endswith("Answers.antt") and l.startswith("pub ")))
-print("8c lemmas", sum(1 for p, t in text.items() for l in t
-                       if not re.search(r"(Answers|Invariants)\.antt$", p) and re.match(r"(pub )?[\w'-]+ (\(.*\) |\{.*\} )*:", l)))
+print("8c lemmas", sum(lemmas(t) for p, t in text.items() if not re.search(r"(Answers|Invariants)\.antt$", p)))
