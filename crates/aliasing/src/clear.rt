@@ -59,7 +59,8 @@ pub fn clear(n: u8, words: &[u64]) -> ClearPairs
     ClearPairs { bytes }
 }
 
-// One byte for each pair of at most 32 factors, into an empty list, filled in place as it is large.
+// One byte for each pair of at most 32 factors, into an empty list, filled in place as it is large. The range of n is asked, as `clear` has
+// tested it. The bytes of all words stand in an array, as memory that `mark_alone` is lent.
 fn push_bytes(n: u8, words: &[u64], bytes: &mut Bounded<u8, PAIRS>)
     requires few { n ≤ 32 }
     requires empty { items_of bytes.old ≡ [] }
@@ -135,7 +136,7 @@ impl Short {
 }
 
 // One byte for each word of a list: 1 where no other has the same least alias, else 0. The words of a bucket are in a chain, by
-// their places from 1; 0 is no place. By places, since nothing is allocated: the kit's maps are on the heap.
+// their places from 1; 0 is no place, and no Option, so that a table of zeros is one of empty buckets. By places, since nothing is allocated: the kit's maps are on the heap.
 fn mark_alone(short: &[Short], alone: &mut [u8])
     requires few { length short.now ≤ 528 }
     requires room { length short.now ≤ length alone.old }
@@ -156,6 +157,7 @@ fn mark_alone(short: &[Short], alone: &mut [u8])
 }
 
 // A word meets the earlier ones of its bucket, from the last, until one has the same least alias: neither is alone. Gives the word's own byte.
+// By places, as in `mark_alone`.
 fn meet(short: &[Short], i: usize, last: usize, before: &[u16], alone: &mut [u8]) -> u8
     requires inside { i < length short.now }
     requires places { length short.now ≤ length before.now }

@@ -94,7 +94,8 @@ pub fn fill_aliases<L: Levels>(n: u8, words: &[u64], word: u64, memory: &mut [u6
     fill_over::<L>(n, basis.rows(), least, memory)
 }
 
-// Writes the alias set of a word over rows, row by row from the smallest. No row makes the word smaller.
+// Writes the alias set of a word over rows, row by row from the smallest. No row makes the word smaller. It asks for echelon rows and a
+// legal word, as `Basis::reduce` does. Memory is lent, so that here and below its front is told by a length beside it.
 fn fill_over<L: Levels>(n: u8, rows: &[u64], least: u64, memory: &mut [u64]) -> usize
     requires echelon { Echelon L.Levels.model n rows.now }
     requires word { Word L.Levels.model n least }

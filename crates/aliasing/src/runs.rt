@@ -53,7 +53,8 @@ pub fn parity(run: u64, word: u64) -> bool
     (run & word).count_ones() % 2 == 1
 }
 
-// The block number of a run: one binary digit for each of at most 16 words, the lowest first, 1 where the word is odd.
+// The block number of a run: one binary digit for each of at most 16 words, the lowest first, 1 where the word is odd. The number of words
+// is a premise, as in pattern.rt: a slice of any length is taken.
 pub fn block_number(run: u64, words: &[u64]) -> u32
     ensures { (n : ℕ) → legal two n run ≡ true → AllWords two n words.now → length words.now ≤ 16 → result ≡ block_number n run words.now }
 {
@@ -67,7 +68,8 @@ pub fn block_number(run: u64, words: &[u64]) -> u32
 }
 
 // Words of so many factors, each at the place of its lowest letter; code 0 where there is none.
-// Codes: no such word is 0, and the definitions `placed` and `empty_below` speak of them.
+// Codes: no such word is 0, and the definitions `placed` and `empty_below` speak of them. Of which list the rows are is a premise of the
+// methods: the table keeps no list, and a ghost one would be named in each clause all the same.
 #[derive(Clone, Copy)]
 struct Table {
     factors: u8,

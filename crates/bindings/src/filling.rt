@@ -15,7 +15,7 @@ use levels::{Levels, TwoLevels};
 // No call gives more runs.
 const MOST: usize = 65_536;
 
-// The aliases of a legal word, in ascending code.
+// The aliases of a legal word, in ascending code. Like the questions of questions.rt: one line, with its contract at any levels.
 fn aliases<L: Levels>(file: &[u8], word: u64, memory: &mut [u64]) -> Result<usize, Refusal>
     ensures count { result ≡ fill_count (asked (read_file L.Levels.model file.now) (aliases_of L.Levels.model word)) memory.old }
     ensures stored { memory.new ≡ fill_left (asked (read_file L.Levels.model file.now) (aliases_of L.Levels.model word)) memory.old }

@@ -12,7 +12,7 @@ use crate::outcome::Outcome;
 use contents::Refusal;
 use levels::TwoLevels;
 
-// One private function for each question, as in questions.rt: one line, with its contract.
+// One private function for each question, as in questions.rt: a line or two, with its contract.
 
 // The clear pairs of a file's plan.
 fn clear(file: &[u8], memory: &mut [u8]) -> Result<usize, Refusal>

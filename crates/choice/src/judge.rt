@@ -19,7 +19,7 @@ pub(crate) struct Judge<'a, L: Levels, P> {
     preference: &'a P,
     factors: u8,
     base: &'a [u64],
-    // whether preferences judge by the base list
+    // Whether preferences judge by the base list. A flag, and no Option: the order of a judge speaks of the list either way.
     able: bool,
     levels: PhantomData<L>,
     ghost aware: { able ≡ fair L.Levels.model factors base.now },

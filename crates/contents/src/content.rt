@@ -40,7 +40,7 @@ impl PlanContent {
     }
 
     // The same, for a number that is known to be in range.
-    // The range is asked here, as its callers have just tested it, and the value keeps it.
+    // The range is asked here, as its callers have just tested it, or pass 1, and the value keeps it.
     fn blank(n: u8) -> PlanContent
         requires low { 1 ≤ n }
         requires high { n ≤ 32 }

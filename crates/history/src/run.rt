@@ -28,7 +28,7 @@ fn carry_on<L: Levels>(mut trial: Trial<L>, calls: &[Call<'_>]) -> Option<Trial<
     Some(trial)
 }
 
-// One call.
+// One call. By the state of the plan, which a call may change: calls are data.
 fn step<L: Levels>(trial: Trial<L>, call: Call<'_>) -> Option<Trial<L>>
     ensures { option_map working_of result ≡ after L.Levels.model (meant call.entry) (working_of trial) }
 {
