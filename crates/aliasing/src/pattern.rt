@@ -1,10 +1,9 @@
 // The wordlength pattern of the words that a list generates, and their resolution.
-ghost use Rattle.std.specs.Prelude.{◌≡◌, ℕ, suc, ◌^◌, ◌<◌, ◌≤◌, [], ◌∷◌, length, take, None, slice_index};
+ghost use Rattle.std.specs.Prelude.{◌≡◌, ℕ, suc, ◌-◌, ◌^◌, ◌<◌, ◌≤◌, min, [], ◌∷◌, length, take, None, slice_index};
 ghost use Rattle.levels.specs.Generated.{generated};
 ghost use Rattle.aliasing.specs.Pattern.{count, pattern as Pattern, resolution as Resolution, Divides, ResolutionLaw};
 
-use levels::arithmetic::Levels;
-use levels::span::tally;
+use levels::{Levels, Span};
 use std::array;
 
 // How many lengths there are: a word has at most 32 factors.
@@ -17,18 +16,22 @@ pub fn pattern<L: Levels>(n: u8, words: &[u64]) -> [u32; LENGTHS]
     ensures front { length words.now ≤ 16 → n ≤ 32 → take n result ≡ Pattern L.Levels.model n (generated L.Levels.model n words.now) }
     ensures exact { Divides L.Levels.model (generated L.Levels.model n words.now) }
 {
-    let all = tally::<L>(n, words, 0);
+    let all = Span::<L>::new(n, words).tally(0);
     let repeats = all[0];
     if repeats == 0 {
         return [0; LENGTHS];
     }
     let multiples = u64::from(L::LEVELS) - 1;
-    array::from_fn(|i| fitting(all[i + 1] / repeats / multiples))
+    // Most counts are 0, and a division takes long.
+    array::from_fn(|i| match all[i + 1] {
+        0 => 0,
+        amount => fitting(amount / repeats / multiples),
+    })
 }
 
 // A number in 32 bits: the largest of them where it takes more, as it never does of 16 words.
 fn fitting(amount: u64) -> u32
-    ensures { amount < 2 ^ 32 → result ≡ amount }
+    ensures { result ≡ min amount (2 ^ 32 - 1) }
 {
     u32::try_from(amount).unwrap_or(u32::MAX)
 }

@@ -7,4 +7,4 @@ use Rattle.choice.specs.declared.judge.Judge.{Judge}
 
 -- the order by which a judge judges
 abbrev pub order_of : {L P : Type 0} {levels : Ghosts L} → Arithmetic → (P → Relation) → Judge L P levels → ℕ → ℕ → Bool
-order_of A good judge = judged A (good judge.preference.now) judge.factors judge.base.now
+order_of A good judge = judged A (good judge.preference.now) judge.factors judge.base.words.now

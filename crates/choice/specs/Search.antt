@@ -40,11 +40,6 @@ abbrev pub Spread : Arithmetic → ℕ → List ℕ → List ℕ → ℕ → ℕ
 Spread A n [] leaves start w = Below (length leaves) (Leaf A n leaves start) w
 Spread A n (v ∷ vs) leaves start w = Below A.s (λ c. Spread A n vs leaves (word_sum A n start (word_multiple A n c v))) w
 
--- w is a sum of a start, multiples of the extension and multiples of the rows, where the part without the rows is not 0
-abbrev pub Beyond : Arithmetic → ℕ → List ℕ → List ℕ → ℕ → ℕ → Type 0
-Beyond A n rows [] start w = (start ≢ 0) × Coset A n rows start w
-Beyond A n rows (v ∷ vs) start w = Below A.s (λ c. Beyond A n rows vs (word_sum A n start (word_multiple A n c v))) w
-
 -- w is led by a word: a sum of its multiple by a level other than 0 and multiples of the rows
 abbrev pub LedBy : Arithmetic → ℕ → List ℕ → ℕ → ℕ → ℕ → Type 0
 LedBy A n rows lead c w = (0 < c) × Coset A n rows (word_multiple A n c lead) w

@@ -3,9 +3,8 @@ ghost use Rattle.std.specs.Prelude.{◌≡◌, [], ◌∷◌, ◌++◌, take};
 ghost use Rattle.choice.specs.Chosen.{chosen_words};
 
 use bounded::Bounded;
-
 // A plan holds at most 16 words, so no more than 16 are chosen.
-pub const MOST: usize = 16;
+pub use levels::MOST;
 
 // Words in the order in which they were chosen.
 #[derive(Clone, Copy)]

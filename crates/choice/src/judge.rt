@@ -9,20 +9,19 @@ ghost use Rattle.choice.specs.Choice.{beyond, best};
 ghost use Rattle.choice.specs.Search.{Better, Coset, Led, Spread, Top};
 
 use levels::span::list_sums;
-use levels::{Basis, Levels};
+use levels::{Basis, Levels, Span};
 use preferences::{Preference, Verdict, fair};
-use std::marker::PhantomData;
 
 // Judges words of so many factors by a preference, over a base list.
 #[derive(Drop)]
 pub(crate) struct Judge<'a, L: Levels, P> {
     preference: &'a P,
     factors: u8,
-    base: &'a [u64],
+    base: Span<'a, L>,
     // Whether preferences judge by the base list. A flag, and no Option: the order of a judge speaks of the list either way.
     able: bool,
-    levels: PhantomData<L>,
-    ghost aware: { able ≡ fair L.Levels.model factors base.now },
+    ghost same: { base.factors ≡ factors },
+    ghost aware: { able ≡ fair L.Levels.model factors base.words.now },
 }
 
 impl<'a, L: Levels, P: Preference<L>> Judge<'a, L, P> {
@@ -32,14 +31,13 @@ impl<'a, L: Levels, P: Preference<L>> Judge<'a, L, P> {
     pub(crate) fn new(preference: &'a P, factors: u8, base: &'a [u64]) -> Judge<'a, L, P>
         ensures preference { result.preference.now ≡ preference.now }
         ensures factors { result.factors ≡ factors }
-        ensures base { result.base.now ≡ base.now }
+        ensures base { result.base.words.now ≡ base.now }
     {
         Judge {
             preference,
             factors,
-            base,
+            base: Span::new(factors, base),
             able: fair::<L>(factors, base),
-            levels: PhantomData,
         }
     }
 
@@ -126,10 +124,10 @@ impl<'a, L: Levels, P: Preference<L>> Judge<'a, L, P> {
     // The better of two words, the smaller code among equals.
     #[tactic(auto, unfolding(crate::specs::Search::better_of))]
     fn better(&self, a: u64, b: u64) -> u64
-        ensures { Better L.Levels.model (P.Preference.good self.now.preference.now) self.now.factors self.now.base.now a b result }
+        ensures { Better L.Levels.model (P.Preference.good self.now.preference.now) self.now.factors self.now.base.words.now a b result }
     {
         let verdict = if self.able {
-            self.preference.prefer(self.factors, self.base, a, b)
+            self.preference.prefer(&self.base, a, b)
         } else {
             Verdict::Equal
         };

@@ -26,7 +26,7 @@ multiples_length A n k w xs = length_each k (length xs) (λ c. map (word_sum A n
 
 module _ (A : Arithmetic) where
   -- a count that has been added to is of 64 bits
-  pub adds_fit : (xs before after : List ℕ) → Adds A xs before after → (i : ℕ) → i < 65 → get_or after i 0 < 2 ^ 64
+  pub adds_fit : (xs before after : List ℕ) → Adds A xs before after → (i : ℕ) → i < 33 → get_or after i 0 < 2 ^ 64
   adds_fit xs before after h i l = rw (h i l) (mod-lt (get_or before i 0 + of_length A i xs) (omega arith))
 
   -- the words of two lists are added one list after the other
@@ -39,7 +39,7 @@ module _ (A : Arithmetic) where
       ∙ ap (λ v. v % 2 ^ 64) (add_assoc (get_or before i 0) (how_many p xs) (how_many p ys) ∙ ap (λ v. get_or before i 0 + v) (sym (how_many_append p xs ys)))
 
   -- a word is added by one more at its length k
-  pub adds_one : (x k : ℕ) (before : List ℕ) → k ≡ word_length A x → k < length before → ((i : ℕ) → i < 65 → get_or before i 0 < 2 ^ 64) →
+  pub adds_one : (x k : ℕ) (before : List ℕ) → k ≡ word_length A x → k < length before → ((i : ℕ) → i < 33 → get_or before i 0 < 2 ^ 64) →
       Adds A (x ∷ []) before (set before k ((get_or before k 0 + 1) % 2 ^ 64))
   adds_one x k before e inside fit i l =
       let v = (get_or before k 0 + 1) % 2 ^ 64 in
@@ -57,13 +57,7 @@ module _ (A : Arithmetic) where
       ]
 
 module _ (A : Arithmetic) (L : Lawful A) (n : ℕ) where
-  -- where there is a word at all, code 0 is one
-  pub zero_word : (x : ℕ) → Word A n x → Word A n 0
-  zero_word x h =
-      let l = word_legal A n x h in
-      (vector_space A L n l.low l.high).zero_word
-
-  -- and every multiple is one
+  -- every multiple is a word, where there is a word at all
   pub multiple_legal : (c w x : ℕ) → Word A n x → Word A n (word_multiple A n c w)
   multiple_legal c w x h =
       let l = word_legal A n x h in
@@ -79,9 +73,9 @@ module _ (A : Arithmetic) (L : Lawful A) (n : ℕ) where
   pub code_legal : (c w x : ℕ) → Word A n x → code_sum A x (word_multiple A n c w) ≡ word_sum A n x (word_multiple A n c w)
   code_legal c w x h = sym (sum_code A L n x (word_multiple A n c w) h (multiple_legal c w x h))
 
-  -- the sum of a word and a word of a list has one of 65 lengths
+  -- the sum of a word and a word of a list has one of 33 lengths
   pub leaf_length : (a : ℕ) (leaves : List ℕ) (k sum size : ℕ) → Word A n a → AllWords A n leaves → k < length leaves →
-      sum ≡ code_sum A a (get_or leaves k 0) → size ≡ word_length A sum → size < 65
+      sum ≡ code_sum A a (get_or leaves k 0) → size ≡ word_length A sum → size < 33
   leaf_length a leaves k sum size wa wl l es ez =
       let b = get_or leaves k 0 in
       let wb = wl k l in
@@ -93,7 +87,7 @@ module _ (A : Arithmetic) (L : Lawful A) (n : ℕ) where
 
   -- a word plus the words of a list, and plus one more of them
   pub one_leaf_more : (a : ℕ) (leaves : List ℕ) (k sum size : ℕ) (before counts : List ℕ) → Word A n a → AllWords A n leaves → k < length leaves →
-      sum ≡ code_sum A a (get_or leaves k 0) → size ≡ word_length A sum → length counts ≡ 65 → Adds A (map (word_sum A n a) (take k leaves)) before counts →
+      sum ≡ code_sum A a (get_or leaves k 0) → size ≡ word_length A sum → length counts ≡ 33 → Adds A (map (word_sum A n a) (take k leaves)) before counts →
       Adds A (map (word_sum A n a) (take (k + 1) leaves)) before (set counts size ((get_or counts size 0 + 1) % 2 ^ 64))
   one_leaf_more a leaves k sum size before counts wa wl l es ez long added =
       let front = map (word_sum A n a) (take k leaves) in
@@ -133,9 +127,9 @@ module _ (A : Arithmetic) (L : Lawful A) (n : ℕ) where
       ((vector_space A L n r.low r.high).sum_word (word_multiple A n p.0 w) q.0 (multiple_legal p.0 w q.0 wy) wy)
 
   -- words plus multiples of w by the levels below k, then plus its multiple m by k, and one more of these, for which there is room
-  pub one_sum_more : (k w m sum i : ℕ) (xs sums : List ℕ) → k < A.s → length xs * A.s ≤ 64 → AllWords A n xs → m ≡ word_multiple A n k w → i < length xs →
+  pub one_sum_more : (k w m sum i : ℕ) (xs sums : List ℕ) → k < A.s → length xs * A.s ≤ 81 → AllWords A n xs → m ≡ word_multiple A n k w → i < length xs →
       sums ≡ multiples_below A n k w xs ++ map (word_sum A n m) (take i xs) → sum ≡ code_sum A m (get_or xs i 0) →
-      take 64 (sums ++ sum ∷ []) ≡ multiples_below A n k w xs ++ map (word_sum A n m) (take (i + 1) xs)
+      take 81 (sums ++ sum ∷ []) ≡ multiples_below A n k w xs ++ map (word_sum A n m) (take (i + 1) xs)
   one_sum_more k w m sum i xs sums lk room words em li e ex =
       let x = get_or xs i 0 in
       let start = multiples_below A n k w xs in
@@ -148,7 +142,7 @@ module _ (A : Arithmetic) (L : Lawful A) (n : ℕ) where
       ∙ append_assoc start (map (word_sum A n m) (take i xs)) (sum ∷ [])
       ∙ ap (λ y. start ++ (map (word_sum A n m) (take i xs) ++ y ∷ [])) value
       ∙ ap (λ ys. start ++ ys) (sym (map_more (word_sum A n m) xs i 0 li)) in
-      let long : length more ≤ 64 =
+      let long : length more ≤ 81 =
       omega (
         arith,
         length-append start (map (word_sum A n m) (take (i + 1) xs)),
@@ -158,7 +152,7 @@ module _ (A : Arithmetic) (L : Lawful A) (n : ℕ) where
         block_room (length xs) k A.s lk,
         mul_comm k (length xs),
       ) in
-      ap (take 64) one ∙ take_all 64 more long
+      ap (take 81) one ∙ take_all 81 more long
 
   -- adding two words one after the other
   pub sum_twice : (a b : ℕ) (xs : List ℕ) → Word A n a → Word A n b → AllWords A n xs → map (word_sum A n a) (map (word_sum A n b) xs) ≡ map (word_sum A n (word_sum A n a b)) xs
@@ -207,10 +201,10 @@ module _ (A : Arithmetic) (L : Lawful A) (n : ℕ) where
   no_tally ws x i h = sym (cond-false (legal A n x) (of_length A i (aliases A n ws x) % 2 ^ 64) 0 h)
 
   -- the aliases of a word, added to counts of 0, are its tally
-  pub tally_from : (ws : List ℕ) (x : ℕ) (after : List ℕ) → Word A n x → Adds A (aliases A n ws x) (replicate 65 0) after →
-      (i : ℕ) → i < 65 → get_or after i 0 ≡ tallied A n ws x i
+  pub tally_from : (ws : List ℕ) (x : ℕ) (after : List ℕ) → Word A n x → Adds A (aliases A n ws x) (replicate 33 0) after →
+      (i : ℕ) → i < 33 → get_or after i 0 ≡ tallied A n ws x i
   tally_from ws x after wx h i l =
-      let z : get_or (replicate 65 0) i 0 ≡ 0 = get_or-replicate 65 i 0 0 l in
+      let z : get_or (replicate 33 0) i 0 ≡ 0 = get_or-replicate 33 i 0 0 l in
       h i l
       ∙ ap (λ m. m % 2 ^ 64) (ap (λ m. m + of_length A i (aliases A n ws x)) z ∙ zero-add (of_length A i (aliases A n ws x)))
       ∙ sym (cond-true (legal A n x) (of_length A i (aliases A n ws x) % 2 ^ 64) 0 wx)

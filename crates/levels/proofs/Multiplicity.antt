@@ -15,6 +15,7 @@ use Rattle.levels.proofs.Counting.{all_gen, gen_or_not, cancel, clash}
 use Rattle.levels.proofs.Generation.{space, space_of_none}
 use Rattle.levels.proofs.Any.{in_range_or_none, none_generates, any_combination, any_generated, any_zero}
 use Rattle.levels.proofs.Places.{In, in_map, in_map_from}
+use Rattle.levels.proofs.Sets.{generated_same}
 use Rattle.levels.proofs.Ascending.{in_ascending, in_ascending_from, ascending_ascends, ascending_same, how_many_each, how_many_one, how_many_absent, how_many_same, how_many_moved, how_many_times}
 
 module _ (S : Space) (all : List ℕ → List ℕ) (all_nil : all [] ≡ 0 ∷ []) (all_more : (w : ℕ) (ws : List ℕ) → all (w ∷ ws) ≡ each_below S.s (λ c. map (S.add (S.mul c w)) (all ws))) where
@@ -125,14 +126,6 @@ module _ (A : Arithmetic) (L : Lawful A) (n : ℕ) where
   pub generated_ascends : (ws : List ℕ) → Ascends (generated A n ws)
   generated_ascends ws = ascending_ascends (combinations A n ws)
 
-  -- lists that generate the same words have one list of generated words
-  pub same_generated : (us vs : List ℕ) → SameWords A n us vs → generated A n us ≡ generated A n vs
-  same_generated us vs same =
-      let V = vector_space A L n in
-      ascending_same (combinations A n us) (combinations A n vs)
-      (λ z p. any_combination A L n V vs z ((same z).0 (any_generated A L n V us z p)))
-      (λ z p. any_combination A L n V us z ((same z).1 (any_generated A L n V vs z p)))
-
   -- a test passes in the sums of multiples as often as in the generated words, times the repeats
   pub combinations_times : (ws : List ℕ) (p : ℕ → Bool) → how_many p (combinations A n ws) ≡ repeats A n ws * how_many p (generated A n ws)
   combinations_times ws p =
@@ -157,7 +150,7 @@ module _ (A : Arithmetic) (L : Lawful A) (n : ℕ) where
 
   -- lists that generate the same words have the same alias sets
   pub same_alias_set : (us vs : List ℕ) (w : ℕ) → SameWords A n us vs → alias_set A n us w ≡ alias_set A n vs w
-  same_alias_set us vs w same = ap (λ gs. ascending (map (word_sum A n w) gs)) (same_generated us vs same)
+  same_alias_set us vs w same = ap (λ gs. ascending (map (word_sum A n w) gs)) (generated_same A L n us vs same)
 
   -- the alias set of w is the ascending order of its aliases
   pub alias_set_aliases : (ws : List ℕ) (w : ℕ) → alias_set A n ws w ≡ ascending (aliases A n ws w)

@@ -44,4 +44,4 @@ with_all_multiples A n (w ∷ ws) xs = with_multiples A n w (with_all_multiples 
 
 -- the words of a list are added to counts by length, which are of 64 bits and wrap
 abbrev pub Adds : Arithmetic → List ℕ → List ℕ → List ℕ → Type 0
-Adds A xs before after = (i : ℕ) → i < 65 → slice_index after i ≡ (slice_index before i + of_length A i xs) % 2 ^ 64
+Adds A xs before after = (i : ℕ) → i < 33 → slice_index after i ≡ (slice_index before i + of_length A i xs) % 2 ^ 64

@@ -3,6 +3,9 @@ ghost use Rattle.std.specs.Prelude.{◌≡◌, ◌*◌, ◌^◌, ◌&&◌, ℕ, 
 ghost use Rattle.levels.specs.Arithmetic.{Arithmetic, Lawful};
 ghost use Rattle.levels.specs.Words.{legal, code_sum, word_length, word_multiple, word_sum};
 
+// No arithmetic allows a plan more words: 2 to the power of 16 is 65,536, which s to the power of the limit never exceeds.
+pub const MOST: usize = 16;
+
 // Levels of a factor: how many there are, how words of them are packed into codes, and how words are added.
 pub trait Levels {
     // what the levels and their packing are

@@ -42,15 +42,6 @@ impl Basis {
         self.rows.len()
     }
 
-    // The first rows, at most so many, and the others.
-    pub fn split(&self, at: usize) -> (&[u64], &[u64])
-        ensures first { result.0.now ≡ take at (basis_rows self.now) }
-        ensures others { result.1.now ≡ drop at (basis_rows self.now) }
-    {
-        let rows = self.rows();
-        rows.split_at(at.min(rows.len()))
-    }
-
     // What is left of a word by multiples of the rows: code 0 exactly if they generate it.
     // Echelon rows and a legal word are premises: a basis that kept them would be of one number of factors, and asks more of callers.
     pub fn reduce<L: Levels>(&self, n: u8, word: u64) -> u64

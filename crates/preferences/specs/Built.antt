@@ -51,9 +51,9 @@ abbrev pub tallies : Arithmetic → ℕ → List ℕ → ℕ → ℕ → ℕ →
 tallies A n ws w i zero = []
 tallies A n ws w i (suc k) = tallied A n ws w i ∷ tallies A n ws w (suc i) k
 
--- the tallies of a word at each length that a code of 64 bits can have
+-- the tallies of a word at each length that a word of at most 32 factors can have
 unfoldable pub all_tallies : Arithmetic → ℕ → List ℕ → ℕ → List ℕ
-all_tallies A n ws w = tallies A n ws w 0 65
+all_tallies A n ws w = tallies A n ws w 0 33
 
 -- a preference turned round
 abbrev pub reversed : Relation → Relation

@@ -1,10 +1,10 @@
 -- Lists of counts in the order of their first difference, and the counts of alias sets and of tallies.
-use Rattle.std.specs.Prelude.{◌≡◌, ℕ, zero, suc, ◌+◌, ◌-◌, ◌*◌, ◌%◌, ◌^◌, ◌<◌, ◌≤◌, true, false, cond, ◌&&◌, leb, ◌⊎◌, List, [], ◌∷◌, ◌++◌, map, length, take, drop, ◌==◌, ◌≢◌, nat_eq, nat_le, nat_lt, slice_index, slice_index_or, refl}
+use Rattle.std.specs.Prelude.{◌≡◌, ℕ, zero, suc, ◌+◌, ◌-◌, ◌*◌, ◌%◌, ◌^◌, ◌<◌, ◌≤◌, true, false, cond, ◌&&◌, leb, ◌⊎◌, List, [], ◌∷◌, ◌++◌, map, length, ◌==◌, ◌≢◌, nat_eq, nat_le, nat_lt, slice_index, slice_index_or, refl}
 use Rattle.std.specs.Ordering.{nat_cmp}
 use Rattle.std.specs.Cmp.Lexicographic.{slice_cmp}
 use Rattle.std.proofs.Common.{sym, ◌∙◌, ap, subst, inl, inr, arith, zero-add, add-zero, suc-add, mod-eq_of_lt}
 use Rattle.std.proofs.Math.Nat.{mul-lt-mul_of_pos_left, pow-le-pow_right}
-use Rattle.std.proofs.lemmas.List.{length-map, ext_get_or, take_rest}
+use Rattle.std.proofs.lemmas.List.{length-map, ext_get_or}
 use Rattle.std.proofs.lemmas.Bool.{cases_order, eq-eqb, ne_eqb, lt-ltb, le-ltb, le-leb, lt-leb, leb-true, cases_Bool, both_ways, and_parts, and_right, cond-true, cond-false}
 use Rattle.levels.specs.Arithmetic.{Arithmetic, Lawful}
 use Rattle.levels.specs.Words.{legal, code, digits, zip_with, word_sum, word_length}
@@ -20,8 +20,7 @@ use Rattle.levels.proofs.Ascending.{how_many_none, how_many_most}
 use Rattle.levels.proofs.Multiplicity.{in_alias_set_from, same_alias_set, aliases_times, repeats_positive}
 use Rattle.preferences.specs.Relation.{fair, all_legal, PreferenceLaws}
 use Rattle.preferences.specs.Built.{no_more, length_counts, tallies, all_tallies, least_aberration}
-use Rattle.preferences.specs.Verdicts.{of_order, verdict, verdict_of}
-use Rattle.preferences.specs.declared.preference.Verdict.TheVariants.{Equal}
+use Rattle.preferences.specs.Verdicts.{of_order, verdict_of}
 
 -- lists that begin with the same count differ in the rest
 same_first : (x y : ℕ) (xs ys : List ℕ) → x ≡ y → no_more (x ∷ xs) (y ∷ ys) ≡ no_more xs ys
@@ -222,24 +221,16 @@ tallies_from A n ws w r k size each =
     ext_get_or 0 r (tallies A n ws w 0 k) (size ∙ sym (tallies_length A n ws w 0 k))
     (λ i l. let below : i < k = omega arith in each i below ∙ ap (tallied A n ws w) (sym (zero-add i)) ∙ sym (tallies_at A n ws w 0 k i below))
 
--- the verdict by tallies of 65 lengths is that of least aberration
+-- the verdict by tallies of 33 lengths is that of least aberration
 pub tallies_of_words : (A : Arithmetic) → Lawful A → (n : ℕ) (ws : List ℕ) (a b : ℕ) → fair A n ws ≡ true → Word A n a → Word A n b →
     verdict_of (no_more (all_tallies A n ws a) (all_tallies A n ws b)) (no_more (all_tallies A n ws b) (all_tallies A n ws a)) ≡ verdict_of (least_aberration A n ws a b) (least_aberration A n ws b a)
 unfolding all_tallies
 tallies_of_words A lawful n ws a b f wa wb =
     let range = word_legal A n a wa in
     let high = range.high in
-    let there = tallies_order A lawful n ws f a b wa wb 65 (omega arith) in
-    let back = tallies_order A lawful n ws f b a wb wa 65 (omega arith) in
+    let there = tallies_order A lawful n ws f a b wa wb 33 (omega arith) in
+    let back = tallies_order A lawful n ws f b a wb wa 33 (omega arith) in
     cc
-
--- the same of any codes, where there is anything to judge
-pub tallies_verdict : (A : Arithmetic) → Lawful A → (n : ℕ) (ws : List ℕ) (a b : ℕ) → (fair A n ws && (legal A n a && legal A n b)) ≡ true →
-    verdict_of (no_more (all_tallies A n ws a) (all_tallies A n ws b)) (no_more (all_tallies A n ws b) (all_tallies A n ws a)) ≡ verdict A (least_aberration A) n ws a b
-tallies_verdict A lawful n ws a b h =
-    let p = and_parts (fair A n ws) (legal A n a && legal A n b) h in
-    let q = and_parts (legal A n a) (legal A n b) p.1 in
-    tallies_of_words A lawful n ws a b p.0 q.0 q.1 ∙ sym (cond-true (fair A n ws && (legal A n a && legal A n b)) (verdict_of (least_aberration A n ws a b) (least_aberration A n ws b a)) Equal h)
 
 -- where lists first differ, the counts there decide
 pub differ_at : (xs ys : List ℕ) (i : ℕ) → i < length xs → i < length ys → ((k : ℕ) → k < i → slice_index xs k ≡ slice_index ys k) → (slice_index xs i ≢ slice_index ys i) →
@@ -266,24 +257,6 @@ counts_verdict (x ∷ xs) (y ∷ ys) e =
       | inr (inl l) ↦ grind arith
       | inr (inr l) ↦ grind arith
     ]
-
--- without counts there is no difference
-pub no_counts_verdict : (xs ys : List ℕ) → length xs < 1 → Equal ≡ verdict_of (no_more xs ys) (no_more ys xs)
-no_counts_verdict [] [] e = refl
-no_counts_verdict [] (y ∷ ys) e = refl
-no_counts_verdict (x ∷ xs) ys e = let wrong : ⊥ = omega arith in elim wrong [ ]
-
--- lists that begin with the same count are judged by the rest
-pub same_head_verdict : (xs ys : List ℕ) → 0 < length xs → 0 < length ys → slice_index xs 0 ≡ slice_index ys 0 →
-    verdict_of (no_more (take (length xs - 1) (drop 1 xs)) (take (length ys - 1) (drop 1 ys))) (no_more (take (length ys - 1) (drop 1 ys)) (take (length xs - 1) (drop 1 xs))) ≡ verdict_of (no_more xs ys) (no_more ys xs)
-same_head_verdict [] ys la lb e = let wrong : ⊥ = omega arith in elim wrong [ ]
-same_head_verdict (x ∷ xs) [] la lb e = let wrong : ⊥ = omega arith in elim wrong [ ]
-same_head_verdict (x ∷ xs) (y ∷ ys) la lb e =
-    let rx : take (length (x ∷ xs) - 1) (drop 1 (x ∷ xs)) ≡ xs = take_rest (x ∷ xs) 1 in
-    let ry : take (length (y ∷ ys) - 1) (drop 1 (y ∷ ys)) ≡ ys = take_rest (y ∷ ys) 1 in
-    let there = same_first x y xs ys e in
-    let back = same_first y x ys xs (sym e) in
-    cc
 
 -- at place j of the counts from length i on stands that of length i + j
 pub counts_at : (A : Arithmetic) (ws : List ℕ) (i k j : ℕ) → j < k → slice_index (length_counts A ws i k) j ≡ of_length A (i + j) ws
@@ -348,11 +321,3 @@ lengths_of_words A lawful n ws a b none wa wb =
     let there : least_aberration A n ws a b ≡ leb (word_length A b) (word_length A a) = ap (λ us. least_aberration A n us a b) none ∙ longer_first A lawful n a b wa wb in
     let back : least_aberration A n ws b a ≡ leb (word_length A a) (word_length A b) = ap (λ us. least_aberration A n us b a) none ∙ longer_first A lawful n b a wb wa in
     cc
-
--- the same of any codes, where there is anything to judge
-pub longer_verdict : (A : Arithmetic) → Lawful A → (n : ℕ) (ws : List ℕ) (a b : ℕ) → ws ≡ [] → (fair A n ws && (legal A n a && legal A n b)) ≡ true →
-    verdict_of (nat_le (word_length A b) (word_length A a)) (nat_le (word_length A a) (word_length A b)) ≡ verdict A (least_aberration A) n ws a b
-longer_verdict A lawful n ws a b none h =
-    let p = and_parts (fair A n ws) (legal A n a && legal A n b) h in
-    let q = and_parts (legal A n a) (legal A n b) p.1 in
-    lengths_of_words A lawful n ws a b none q.0 q.1 ∙ sym (cond-true (fair A n ws && (legal A n a && legal A n b)) (verdict_of (least_aberration A n ws a b) (least_aberration A n ws b a)) Equal h)

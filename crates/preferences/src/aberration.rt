@@ -7,8 +7,7 @@ ghost use Rattle.preferences.specs.Verdicts.{verdict_of};
 ghost use Rattle.preferences.specs.Counts.{least_aberration_laws};
 
 use crate::preference::{Preference, Verdict, smaller};
-use levels::Levels;
-use levels::span::{LENGTHS, tally_both};
+use levels::{Levels, Span};
 
 #[derive(Clone, Copy)]
 pub struct LeastAberration;
@@ -19,11 +18,11 @@ impl<L: Levels> Preference<L> for LeastAberration {
     // the order of counts
     ghost lawful = { λ self. least_aberration_laws L.Levels.model L.Levels.lawful };
 
-    fn prefer(&self, n: u8, base: &[u64], a: u64, b: u64) -> Verdict {
-        if base.is_empty() {
+    fn prefer(&self, base: &Span<L>, a: u64, b: u64) -> Verdict {
+        if base.words().is_empty() {
             longer::<L>(a, b)
         } else {
-            fewer::<L>(n, base, a, b)
+            fewer(base, a, b)
         }
     }
 }
@@ -37,11 +36,8 @@ fn longer<L: Levels>(a: u64, b: u64) -> Verdict
 
 // Of two words, the one whose aliases have fewer of the first length in which they differ.
 // Legal words are premises, as in `prefer`.
-fn fewer<L: Levels>(n: u8, base: &[u64], a: u64, b: u64) -> Verdict
-    ensures { Word L.Levels.model n a → Word L.Levels.model n b → result ≡ verdict_of (no_more (all_tallies L.Levels.model n base.now a) (all_tallies L.Levels.model n base.now b)) (no_more (all_tallies L.Levels.model n base.now b) (all_tallies L.Levels.model n base.now a)) }
+fn fewer<L: Levels>(base: &Span<L>, a: u64, b: u64) -> Verdict
+    ensures { Word L.Levels.model base.now.factors a → Word L.Levels.model base.now.factors b → result ≡ verdict_of (no_more (all_tallies L.Levels.model base.now.factors base.now.words.now a) (all_tallies L.Levels.model base.now.factors base.now.words.now b)) (no_more (all_tallies L.Levels.model base.now.factors base.now.words.now b) (all_tallies L.Levels.model base.now.factors base.now.words.now a)) }
 {
-    let mut firsts = [0; LENGTHS];
-    let mut seconds = [0; LENGTHS];
-    tally_both::<L>(n, base, a, b, &mut firsts, &mut seconds);
-    Verdict::from(firsts.cmp(&seconds))
+    Verdict::from(base.tally(a).cmp(&base.tally(b)))
 }

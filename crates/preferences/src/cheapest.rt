@@ -5,7 +5,7 @@ ghost use Rattle.preferences.specs.Built.{cheapest, cost, cost_score};
 ghost use Rattle.std.proofs.Common.{rules};
 
 use crate::preference::{Preference, Scored, Verdict, count_if_legal, smaller};
-use levels::Levels;
+use levels::{Levels, Span};
 
 // No word has more factors.
 const FACTORS: usize = 32;
@@ -45,7 +45,8 @@ impl<L: Levels> Preference<L> for Cheapest {
 
     ghost lawful = { Prim.search rules };
 
-    fn prefer(&self, n: u8, _base: &[u64], a: u64, b: u64) -> Verdict {
+    fn prefer(&self, base: &Span<L>, a: u64, b: u64) -> Verdict {
+        let n = base.factors();
         smaller(
             u64::from(self.cost::<L>(n, a)),
             u64::from(self.cost::<L>(n, b)),

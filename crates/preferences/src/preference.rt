@@ -5,7 +5,7 @@ ghost use Rattle.levels.specs.Space.{Word};
 ghost use Rattle.preferences.specs.Relation.{Relation, PreferenceLaws, all_legal, fair};
 ghost use Rattle.preferences.specs.Verdicts.{of_order, verdict, verdict_of, turned, Scores};
 
-use levels::Levels;
+use levels::{Levels, Span};
 use std::cmp::Ordering;
 
 // Which of two words is better. An own enum: its names are the public ones of the field, and an Ordering converts to it.
@@ -54,14 +54,14 @@ pub trait Preference<L: Levels> {
         if !judged::<L>(n, base, a, b) {
             return Verdict::Equal;
         }
-        self.prefer(n, base, a, b)
+        self.prefer(&Span::new(n, base), a, b)
     }
 
-    // The same where every code is known to be legal and the base list to be within the limit, so that nothing has to be
-    // tested. Of other codes and lists it may say anything.
+    // The same over a base list that is ready for many questions, where every code is known to be legal and the list to be within
+    // the limit, so that nothing has to be tested. Of other codes and lists it may say anything.
     // Legal words are premises: a type that carried this would be of one number of factors, and each caller would make two of them.
-    fn prefer(&self, n: u8, base: &[u64], a: u64, b: u64) -> Verdict
-        ensures { fair L.Levels.model n base.now ≡ true → Word L.Levels.model n a → Word L.Levels.model n b → result ≡ verdict_of (good self.now n base.now a b) (good self.now n base.now b a) };
+    fn prefer(&self, base: &Span<L>, a: u64, b: u64) -> Verdict
+        ensures { fair L.Levels.model base.now.factors base.now.words.now ≡ true → Word L.Levels.model base.now.factors a → Word L.Levels.model base.now.factors b → result ≡ verdict_of (good self.now base.now.factors base.now.words.now a b) (good self.now base.now.factors base.now.words.now b a) };
 
     ghost lawful: { (self : Self) → PreferenceLaws L.Levels.model (good self) };
 }

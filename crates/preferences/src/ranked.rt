@@ -3,7 +3,7 @@ ghost use Rattle.preferences.specs.Built.{first_then_second};
 ghost use Rattle.preferences.specs.Laws.{first_then_second_laws};
 
 use crate::preference::{Preference, Verdict};
-use levels::Levels;
+use levels::{Levels, Span};
 
 #[derive(Clone, Copy)]
 pub struct FirstThenSecond<P, Q> {
@@ -17,9 +17,9 @@ impl<L: Levels, P: Preference<L>, Q: Preference<L>> Preference<L> for FirstThenS
     // the laws of the two preferences
     ghost lawful = { λ self. first_then_second_laws L.Levels.model (P.Preference.good self.first) (Q.Preference.good self.second) (P.Preference.lawful self.first) (Q.Preference.lawful self.second) };
 
-    fn prefer(&self, n: u8, base: &[u64], a: u64, b: u64) -> Verdict {
-        match self.first.prefer(n, base, a, b) {
-            Verdict::Equal => self.second.prefer(n, base, a, b),
+    fn prefer(&self, base: &Span<L>, a: u64, b: u64) -> Verdict {
+        match self.first.prefer(base, a, b) {
+            Verdict::Equal => self.second.prefer(base, a, b),
             decided => decided,
         }
     }

@@ -4,7 +4,7 @@ ghost use Rattle.preferences.specs.Laws.{reversed_laws};
 
 use crate::preference::{Preference, Verdict};
 use crate::shortest::Shortest;
-use levels::Levels;
+use levels::{Levels, Span};
 
 #[derive(Clone, Copy)]
 pub struct Reversed<P>(pub P);
@@ -18,7 +18,7 @@ impl<L: Levels, P: Preference<L>> Preference<L> for Reversed<P> {
     // the laws of the preference
     ghost lawful = { λ self. reversed_laws L.Levels.model (P.Preference.good self.0) (P.Preference.lawful self.0) };
 
-    fn prefer(&self, n: u8, base: &[u64], a: u64, b: u64) -> Verdict {
-        self.0.prefer(n, base, a, b).turned()
+    fn prefer(&self, base: &Span<L>, a: u64, b: u64) -> Verdict {
+        self.0.prefer(base, a, b).turned()
     }
 }

@@ -4,7 +4,7 @@ ghost use Rattle.preferences.specs.Built.{shortest, length_score};
 ghost use Rattle.std.proofs.Common.{rules};
 
 use crate::preference::{Preference, Scored, Verdict, count_if_legal, smaller};
-use levels::Levels;
+use levels::{Levels, Span};
 
 #[derive(Clone, Copy)]
 pub struct Shortest;
@@ -14,7 +14,7 @@ impl<L: Levels> Preference<L> for Shortest {
 
     ghost lawful = { Prim.search rules };
 
-    fn prefer(&self, _n: u8, _base: &[u64], a: u64, b: u64) -> Verdict {
+    fn prefer(&self, _base: &Span<L>, a: u64, b: u64) -> Verdict {
         smaller(u64::from(L::length(a)), u64::from(L::length(b)))
     }
 }

@@ -15,7 +15,8 @@ returns-then-repeats-eq0 g c =
     let L = g.met.L.Levels.lawful in
     let n = c.args.n in
     let ws = c.args.words.now in
-    let none : tallied A n ws 0 0 ≡ 0 = cc (c.tally-all.ensures 0 (omega arith), c.if-repeats-eq0.true) in
+    let tallies = rw (c.new.ensures.factors, c.new.ensures.words) at c.tally-all.ensures in
+    let none : tallied A n ws 0 0 ≡ 0 = cc (tallies 0 (omega arith), c.if-repeats-eq0.true) in
     let zeros : length ws ≤ 16 → (i : ℕ) → i < 32 → get_or (replicate 32 0) i 0 ≡ count A (generated A n ws) (suc i)
     = λ few i l. get_or-replicate 32 i 0 0 l ∙ sym (tallied-none A L n ws few none (suc i) (omega arith)) in
     record {
@@ -36,9 +37,10 @@ returns g c =
     let amount : ℕ → ℕ = λ i. get_or all (i + 1) 0 / get_or all 0 0 / (c.from.result - 1) in
     let fitted : (i : ℕ) → i < 32 → amount i < 2 ^ 32 → get_or c.from_fn.result i 0 ≡ amount i
     = λ i l. each_called _ (λ i y. amount i < 2 ^ 32 → y ≡ amount i) _ c.from_fn.result 32 0 c.from_fn.ensures.items.each (λ x y q k. let h = k.met.0 in let e = k.met.1 in (λ j. (e.0 j, e.1 j, e.2 j), λ l. grind (arith, h))) i (omega arith) l in
-    let zeros = c.tally-all.ensures 0 (omega arith) in
+    let tallies = rw (c.new.ensures.factors, c.new.ensures.words) at c.tally-all.ensures in
+    let zeros = tallies 0 (omega arith) in
     let quotient : length ws ≤ 16 → (i : ℕ) → i < 32 → amount i ≡ count A (generated A n ws) (i + 1)
-    = λ few i l. let here = c.tally-all.ensures (i + 1) (omega arith) in cc (tallied-count A L n ws few (λ e. c.if-repeats-eq0.false (zeros ∙ e)) (i + 1)) in
+    = λ few i l. let here = tallies (i + 1) (omega arith) in cc (tallied-count A L n ws few (λ e. c.if-repeats-eq0.false (zeros ∙ e)) (i + 1)) in
     let counts : length ws ≤ 16 → (i : ℕ) → i < 32 → get_or c.from_fn.result i 0 ≡ count A (generated A n ws) (suc i)
     = λ few i l. fitted i l (omega (arith, quotient few i l, count_fits A L n ws few (i + 1) (omega arith))) ∙ quotient few i l ∙ ap (count A (generated A n ws)) (add-one i) in
     record {

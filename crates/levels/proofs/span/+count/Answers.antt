@@ -6,7 +6,7 @@ use Rattle.levels.specs.Alias.{multiples_below, with_all_multiples}
 use Rattle.levels.proofs.Leaves.{leaf_length, one_leaf_more, adds_fit, code_legal, sum_legal, all_multiples_words, one_level_counted}
 use Rattle.levels.proofs.span.+count.Goals as goal
 
--- a sum has one of 65 lengths
+-- a sum has one of 33 lengths
 pub bounds-counts-length : goal.bounds-counts-length
 bounds-counts-length g t c =
     leaf_length g.L.Levels.model g.met.L.Levels.lawful c.args.n c.args.start c.args.leaves.now c.loop-leaf.leaf-index c.add.result c.from-length.result
@@ -41,7 +41,7 @@ count-requires g t c κs within =
     c.add-in-loop-level.ensures ∙ ap (code_sum A start) c.product.ensures ∙ code_legal A g.met.L.Levels.lawful n c.loop-level.level w start c.requires.start in
     let legal : Word A n c.add-in-loop-level.result =
     subst (Word A n) (sym value) (sum_legal A g.met.L.Levels.lawful n c.loop-level.level w start c.requires.start) in
-    let fit : (i : ℕ) → i < 65 → get_or c.loop-level.counts i 0 < 2 ^ 64 =
+    let fit : (i : ℕ) → i < 33 → get_or c.loop-level.counts i 0 < 2 ^ 64 =
     adds_fit A (map (word_sum A n start) (multiples_below A n c.loop-level.level w (with_all_multiples A n (take (length c.args.words.now - 1) (drop 1 c.args.words.now)) c.args.leaves.now))) c.args.counts.now c.loop-level.counts c.loop-level.invariant.0 in
     search rules
 

@@ -10,7 +10,7 @@ decreases-count g l = length l.words.now
 abbrev pub invariant-loop-leaf : goal.invariant-loop-leaf
 invariant-loop-leaf g l =
     Adds g.L.Levels.model (map (word_sum g.L.Levels.model l.n l.start) (take l.leaf-index l.leaves)) l.initial.counts l.counts
-    × (length l.counts ≡ 65)
+    × (length l.counts ≡ 33)
 
 -- the sums with the multiples by the levels so far are counted
 abbrev pub invariant-loop-level : goal.invariant-loop-level
@@ -18,4 +18,4 @@ invariant-loop-level g l =
     Adds g.L.Levels.model
     (map (word_sum g.L.Levels.model l.n l.start) (multiples_below g.L.Levels.model l.n l.level l.word (with_all_multiples g.L.Levels.model l.n l.rest l.leaves)))
     l.initial.counts l.counts
-    × (length l.counts ≡ 65)
+    × (length l.counts ≡ 33)

@@ -1,5 +1,4 @@
 use Rattle.std.proofs.Common.{arith}
-use Rattle.levels.proofs.Leaves.{tally_from}
 use Rattle.preferences.specs.Built.{all_tallies}
 use Rattle.preferences.specs.Counts.{tallies_from, counts_verdict}
 use Rattle.preferences.proofs.aberration.fewer.Goals as goal
@@ -9,10 +8,8 @@ pub returns : goal.returns
 unfolding all_tallies
 returns g c legal_first legal_second =
     let A = g.L.Levels.model in
-    let added = c.tally_both.ensures.legal legal_first legal_second in
-    let firsts = c.tally_both.new.firsts in
-    let seconds = c.tally_both.new.seconds in
-    let first = tallies_from A c.args.n c.args.base.now c.args.a firsts 65 (omega arith) (tally_from A g.met.L.Levels.lawful c.args.n c.args.base.now c.args.a firsts legal_first added.0) in
-    let second = tallies_from A c.args.n c.args.base.now c.args.b seconds 65 (omega arith) (tally_from A g.met.L.Levels.lawful c.args.n c.args.base.now c.args.b seconds legal_second added.1) in
-    let verdict = counts_verdict firsts seconds (omega arith) in
+    let span = c.args.base.now in
+    let first = tallies_from A span.factors span.words.now c.args.a c.tally.result 33 (omega arith) c.tally.ensures in
+    let second = tallies_from A span.factors span.words.now c.args.b c.tally-2.result 33 (omega arith) c.tally-2.ensures in
+    let verdict = counts_verdict c.tally.result c.tally-2.result (omega arith) in
     cc

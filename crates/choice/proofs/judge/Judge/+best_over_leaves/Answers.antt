@@ -50,5 +50,5 @@ loop-level-preserved g t c =
     let rest = take (length words - 1) (drop 1 words) in
     let value : c.add-next.result ≡ word_sum A n start (word_multiple A n level w) =
     next_start A L n level w start c.product.result c.add-next.result c.requires.start c.product.ensures c.add-next.ensures in
-    spread_more A L (g.P.Preference.good judge.preference.now) (g.met.P.Preference.lawful judge.preference.now) n judge.base.now c.args.leaves.now start c.requires.start c.requires.words
+    spread_more A L (g.P.Preference.good judge.preference.now) (g.met.P.Preference.lawful judge.preference.now) n judge.base.words.now c.args.leaves.now start c.requires.start c.requires.words
     level w c.add-next.result value rest c.loop-level.best c.best_over_leaves.result c.better-best.result c.better-best.ensures c.loop-level.invariant c.best_over_leaves.ensures

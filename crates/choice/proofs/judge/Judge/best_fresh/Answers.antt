@@ -61,7 +61,7 @@ best_led-led-requires g c =
     let t = YieldsList-turn (YieldsList-from_skip k (YieldsList-from_enumerate (YieldsList-from_slice rows cc) cc) cc) c.loop-i.yielded _ c.loop-i.yielded_by _ _ (c.in-Some.i, c.in-Some.lead) c.in-Some.is c.next.ensures.steps in
     let at = placed rows k (length c.loop-i.yielded) (c.in-Some.i, c.in-Some.lead.now) t in
     let echelon : Echelon A n rows = subst (Echelon A n) (sym c.rows-rows.ensures) (c.admit_all.ensures.echelon c.requires) in
-    row_word A g.met.L.Levels.lawful (g.P.Preference.good c.args.self.now.preference.now) (g.met.P.Preference.lawful c.args.self.now.preference.now) n c.args.self.now.base.now rows echelon k (length c.loop-i.yielded) (c.in-Some.i, c.in-Some.lead.now) at
+    row_word A g.met.L.Levels.lawful (g.P.Preference.good c.args.self.now.preference.now) (g.met.P.Preference.lawful c.args.self.now.preference.now) n c.args.self.now.base.words.now rows echelon k (length c.loop-i.yielded) (c.in-Some.i, c.in-Some.lead.now) at
 
 -- one row more, behind others
 pub loop-i-preserved-in-Some-best : goal.loop-i-preserved-in-Some-best
@@ -75,7 +75,7 @@ loop-i-preserved-in-Some-best g c =
     let p : ℕ × ℕ = (c.in-Some.i, c.in-Some.lead.now) in
     let echelon : Echelon A judge.factors rows = subst (Echelon A judge.factors) (sym c.rows-rows.ensures) (c.admit_all.ensures.echelon c.requires) in
     let before = subst (TopOf (order_of A g.P.Preference.good judge) (Below (k + j) (LedAt A judge.factors rows k))) c.in-Some-best.is c.loop-i.invariant in
-    one_more A g.met.L.Levels.lawful (g.P.Preference.good judge.preference.now) (g.met.P.Preference.lawful judge.preference.now) judge.factors judge.base.now rows echelon k j p (placed rows k j p t)
+    one_more A g.met.L.Levels.lawful (g.P.Preference.good judge.preference.now) (g.met.P.Preference.lawful judge.preference.now) judge.factors judge.base.words.now rows echelon k j p (placed rows k j p t)
     (Some c.in-Some-best.best) c.best_led-led.result c.better.result (length (c.loop-i.yielded ++ (c.in-Some.i, c.in-Some.lead) ∷ [])) (length_push c.loop-i.yielded (c.in-Some.i, c.in-Some.lead)) c.better.ensures before c.best_led-led.ensures
 
 -- the first row
@@ -90,7 +90,7 @@ loop-i-preserved g c =
     let p : ℕ × ℕ = (c.in-Some.i, c.in-Some.lead.now) in
     let echelon : Echelon A judge.factors rows = subst (Echelon A judge.factors) (sym c.rows-rows.ensures) (c.admit_all.ensures.echelon c.requires) in
     let before = subst (TopOf (order_of A g.P.Preference.good judge) (Below (k + j) (LedAt A judge.factors rows k))) c.in-None-best.is c.loop-i.invariant in
-    one_more A g.met.L.Levels.lawful (g.P.Preference.good judge.preference.now) (g.met.P.Preference.lawful judge.preference.now) judge.factors judge.base.now rows echelon k j p (placed rows k j p t)
+    one_more A g.met.L.Levels.lawful (g.P.Preference.good judge.preference.now) (g.met.P.Preference.lawful judge.preference.now) judge.factors judge.base.words.now rows echelon k j p (placed rows k j p t)
     None c.best_led-led.result c.best_led-led.result (length (c.loop-i.yielded ++ (c.in-Some.i, c.in-Some.lead) ∷ [])) (length_push c.loop-i.yielded (c.in-Some.i, c.in-Some.lead)) refl before c.best_led-led.ensures
 
 -- the best of the words led by added rows is the best fresh word
@@ -100,7 +100,7 @@ returns g c =
     let judge = c.args.self.now in
     let good = g.P.Preference.good judge.preference.now in
     let n = judge.factors in
-    let base = judge.base.now in
+    let base = judge.base.words.now in
     let rows = c.rows-rows.result.now in
     let known = basis_rows c.args.known.now in
     let k = length known in

@@ -16,7 +16,7 @@ loop-leaf-init g c =
     let leaves = c.args.leaves.now in
     let start = c.args.start in
     top_first (order_of A g.P.Preference.good judge) (Leaf A judge.factors leaves start) c.add-best.result
-    (leaf_alone A g.met.L.Levels.lawful (g.P.Preference.good judge.preference.now) (g.met.P.Preference.lawful judge.preference.now) judge.factors judge.base.now leaves start c.requires.start c.requires.words 0 c.add-best.result c.requires.some c.add-best.ensures)
+    (leaf_alone A g.met.L.Levels.lawful (g.P.Preference.good judge.preference.now) (g.met.P.Preference.lawful judge.preference.now) judge.factors judge.base.words.now leaves start c.requires.start c.requires.words 0 c.add-best.result c.requires.some c.add-best.ensures)
 
 -- one leaf more
 pub loop-leaf-preserved : goal.loop-leaf-preserved
@@ -29,5 +29,5 @@ loop-leaf-preserved g c =
     let at : get_or (take (length leaves - 1) (drop 1 leaves)) i 0 ≡ get_or leaves (i + 1) 0 =
     ap (λ ws. get_or ws i 0) (take_rest leaves 1) ∙ get_or_after_one leaves i 0 ∙ ap (λ k. get_or leaves k 0) next in
     let inside : i + 1 < length leaves = omega (arith, c.loop-leaf-test.true) in
-    leaf_more A g.met.L.Levels.lawful (g.P.Preference.good judge.preference.now) (g.met.P.Preference.lawful judge.preference.now) judge.factors judge.base.now leaves c.args.start c.requires.start c.requires.words
+    leaf_more A g.met.L.Levels.lawful (g.P.Preference.good judge.preference.now) (g.met.P.Preference.lawful judge.preference.now) judge.factors judge.base.words.now leaves c.args.start c.requires.start c.requires.words
     (i + 1) c.loop-leaf.best c.add.result c.better-best.result inside (c.add.ensures ∙ ap (code_sum A c.args.start) at) c.better-best.ensures c.loop-leaf.invariant

@@ -6,12 +6,12 @@ use Rattle.preferences.proofs.aberration.LeastAberrationPreference.prefer.Goals 
 -- without base words the lengths decide
 pub returns-then-is_empty : goal.returns-then-is_empty
 returns-then-is_empty g c fair first second =
-    let none : length c.args.base.now ≡ 0 = search rules in
+    let none : length c.args.base.now.words.now ≡ 0 = search rules in
     c.longer.ensures
-    ∙ lengths_of_words g.L.Levels.model g.met.L.Levels.lawful c.args.n c.args.base.now c.args.a c.args.b (nil_from_length c.args.base.now none) first second
+    ∙ lengths_of_words g.L.Levels.model g.met.L.Levels.lawful c.args.base.now.factors c.args.base.now.words.now c.args.a c.args.b (nil_from_length c.args.base.now.words.now none) first second
 
 -- tallies are in the order of least aberration
 pub returns-else-is_empty : goal.returns-else-is_empty
 returns-else-is_empty g c fair first second =
     c.fewer.ensures first second
-    ∙ tallies_of_words g.L.Levels.model g.met.L.Levels.lawful c.args.n c.args.base.now c.args.a c.args.b fair first second
+    ∙ tallies_of_words g.L.Levels.model g.met.L.Levels.lawful c.args.base.now.factors c.args.base.now.words.now c.args.a c.args.b fair first second
