@@ -1,175 +1,135 @@
--- The words of a list in chains by the bucket of their least alias: one word more, and the way along a chain.
-use Rattle.std.proofs.Common.{◌≡◌, ℕ, ◌+◌, ◌-◌, ◌*◌, ◌^◌, ◌<◌, ◌≤◌, ◌≢◌, List, length, get_or, set, sym, refl, ap, ◌∙◌, subst, inl, inr, arith, get_or-set_other, get_or-set_same, lit<}
+-- Words in chains by the bucket of their least alias: one word more, and the way along a chain.
+use Rattle.std.proofs.Common.{◌≡◌, ℕ, ◌+◌, ◌-◌, ◌*◌, ◌^◌, ◌<◌, ◌≤◌, ◌≢◌, List, length, get_or, set, replicate, sym, ap, ◌∙◌, subst, inl, inr, arith, get_or-set_other, get_or-set_same, lit<}
+use Rattle.std.proofs.lemmas.List.{length-set, length-replicate, get_or-replicate}
 use Rattle.std.proofs.lemmas.Nat.{mod_below}
-use Rattle.std.proofs.lemmas.List.{get_or_default}
 use Rattle.std.proofs.lemmas.Bool.{cases_eq, cases_lt}
-use Rattle.aliasing.specs.declared.clear.Short.{Short}
-use Rattle.aliasing.specs.Buckets.{bucket_of, LastBefore, Befores, Different, Tells, Told}
+use Rattle.aliasing.specs.Short.{sum_at}
+use Rattle.aliasing.specs.Buckets.{bucket_of, LastBefore, Chained, Long}
 
 -- each bucket is one of 1024
-bucket_below : (r : ℕ) → bucket_of r < 1024
+pub bucket_below : (r : ℕ) → bucket_of r < 1024
 bucket_below r = let h = mod_below (r * 0x9e37_79b9_7f4a_7c15) (2 ^ 64) (lit< tt) in omega arith
 
 -- the bucket of the word at a place
-abbrev bucket_at : List Short → ℕ → Short → ℕ
-bucket_at ss i d = bucket_of (get_or ss i d).least
-
--- the first k words of a list in chains: to each bucket the place of its last word, and to each word that of the one before it
-pub record Chained (ss : List Short) (k : ℕ) (last before : List ℕ) : Type 0 where
-  pub lasts : (b : ℕ) → b < 1024 → LastBefore ss b k (get_or last b 0)
-  pub befores : Befores ss k before
-
--- a word that is in another bucket changes nothing
-last_other : (ss : List Short) (b k place : ℕ) → LastBefore ss b k place → ((d : Short) → bucket_at ss k d ≢ b) → LastBefore ss b (k + 1) place
-last_other ss b k place h other = record {
-  within = let w = h.within in omega arith;
-  there = h.there;
-  none_between = λ i l m d. elim (cases_eq i k) [
-    | inl e ↦ subst (λ j. bucket_at ss j d ≢ b) (sym e) (other d)
-    | inr ne ↦ h.none_between i l (omega (arith, ne)) d
-  ];
-}
-
--- a word that is in the bucket is its last
-last_here : (ss : List Short) (b k : ℕ) → ((d : Short) → bucket_at ss k d ≡ b) → LastBefore ss b (k + 1) (k + 1)
-last_here ss b k here = record {
-  within = omega arith;
-  there = λ p d. subst (λ j. bucket_at ss j d ≡ b) (let e : k ≡ k + 1 - 1 = omega arith in e) (here d);
-  none_between = λ i l m d. absurd (omega arith);
-}
-
--- no words are in chains without a place
-pub chained_none : (ss : List Short) (last before : List ℕ) → ((b : ℕ) → b < 1024 → get_or last b 0 ≡ 0) → Chained ss 0 last before
-chained_none ss last before zeros = record {
-  lasts = λ b l. subst (LastBefore ss b 0) (sym (zeros b l)) (record { within = omega arith; there = λ p d. absurd (omega arith); none_between = λ i m k d. absurd (omega arith) });
-  befores = λ i l d. absurd (omega arith);
-}
-
--- one word more
-pub chained_more : (ss : List Short) (k b : ℕ) (d : Short) (last before : List ℕ) → k < length ss → b ≡ bucket_at ss k d → 1024 ≤ length last → k < length before →
-    Chained ss k last before → Chained ss (k + 1) (set last b (k + 1)) (set before k (get_or last b 0))
-chained_more ss k b d last before lk is ll lp h =
-    let here : (o : Short) → bucket_at ss k o ≡ b = λ o. ap (λ s. bucket_of s.least) (get_or_default ss k o d lk) ∙ sym is in
-    let lb : b < 1024 = rw is (bucket_below (get_or ss k d).least) in
-    let there : b < length last = omega arith in
-    record {
-      lasts = λ a la. elim (cases_eq a b) [
-        | inl e ↦ rw (e, get_or-set_same last b (k + 1) 0 there) (last_here ss b k here)
-        | inr ne ↦ rw (get_or-set_other last b a (k + 1) 0 ne) (last_other ss a k (get_or last a 0) (h.lasts a la) (λ o e. ne (sym e ∙ here o)))
-      ];
-      befores = λ i li o. elim (cases_eq i k) [
-        | inl e ↦ rw (e, here o, get_or-set_same before k (get_or last b 0) 0 lp) (h.lasts b lb)
-        | inr ne ↦ rw (get_or-set_other before k i (get_or last b 0) 0 ne) (h.befores i (omega (arith, ne)) o)
-      ];
-    }
-
--- a word with another least alias, or the same word, leaves a byte as it is
-tells_same : (ss : List Short) (k : ℕ) (p : Short) (byte : ℕ) → ((d : Short) → (get_or ss k d).least ≡ p.least → (get_or ss k d).word ≡ p.word) →
-    Tells k ss p byte → Tells (k + 1) ss p byte
-tells_same ss k p byte same t = elim t [
-  | inl y ↦ inl (
-    y.0,
-    λ i d l. elim (cases_eq i k) [
-      | inl e ↦ rw e (same d)
-      | inr ne ↦ y.1 i d (omega (arith, ne))
-    ],
-  )
-  | inr y ↦ inr (y.0, λ a. y.1 (λ i d l. a i d (omega arith)))
-]
+abbrev pub bucket_at : List ℕ → ℕ → ℕ
+bucket_at ls i = bucket_of (sum_at ls i)
 
 -- A word, at place k from 0, has met the words of its bucket down to a place, from 1: none of them has its least alias.
-pub record Met (ss : List Short) (k b : ℕ) (w : Short) (place : ℕ) : Type 0 where
+pub record Met (ls : List ℕ) (k place : ℕ) : Type 0 where
   pub within : place ≤ k
-  pub there : 0 < place → (d : Short) → bucket_at ss (place - 1) d ≡ b
-  pub others : (i : ℕ) → place ≤ i → i < k → (d : Short) → (get_or ss i d).least ≢ w.least
+  pub long : 0 < place → Long ls (place - 1)
+  pub there : 0 < place → bucket_at ls (place - 1) ≡ bucket_at ls k
+  pub others : (i : ℕ) → place ≤ i → i < k → Long ls i → sum_at ls i ≢ sum_at ls k
 
-module _ (ss : List Short) (k : ℕ) (d : Short) (inside : k < length ss) where
-  -- the word is one, whatever stands past the list
-  the_word : (o : Short) → get_or ss k o ≡ get_or ss k d
-  the_word o = get_or_default ss k o d inside
+-- no words are in chains yet
+pub chained_none : (ls : List ℕ) → Chained ls 0 (replicate 1024 0) (replicate 1024 0)
+chained_none ls = record {
+  buckets = length-replicate {A = ℕ} 1024 0;
+  places = length-replicate {A = ℕ} 1024 0;
+  lasts = λ b l. subst (LastBefore ls b 0) (sym (get_or-replicate {A = ℕ} 1024 b 0 0 l)) (record {
+    within = omega arith;
+    long = λ p. absurd (omega arith);
+    there = λ p. absurd (omega arith);
+    none_between = λ i m k s. absurd (omega arith);
+  });
+  befores = λ i l s. absurd (omega arith);
+}
 
-  -- it has met none yet
-  pub met_first : (last : ℕ) → ((o : Short) → LastBefore ss (bucket_at ss k o) k last) → Met ss k (bucket_at ss k d) (get_or ss k d) last
-  met_first last chain =
-      let h = chain d in
-      record { within = h.within; there = h.there; others = λ i m l o e. h.none_between i m l o (ap bucket_of e) }
+module _ (ls : List ℕ) (k : ℕ) where
+  -- a word that is in another bucket changes nothing
+  last_other : (b place : ℕ) → LastBefore ls b k place → bucket_at ls k ≢ b → LastBefore ls b (k + 1) place
+  last_other b place h other = record {
+    within = let w = h.within in omega arith;
+    long = h.long;
+    there = h.there;
+    none_between = λ i l m s. elim (cases_eq i k) [
+      | inl e ↦ subst (λ j. bucket_at ls j ≢ b) (sym e) other
+      | inr ne ↦ h.none_between i l (omega (arith, ne)) s
+    ];
+  }
 
-  -- a word that has another least alias leaves a byte as it is
-  tells_apart : (p : Short) (byte : ℕ) → p.least ≢ (get_or ss k d).least → Tells k ss p byte → Tells (k + 1) ss p byte
-  tells_apart p byte apart t = tells_same ss k p byte (λ o e. absurd (apart (sym e ∙ ap (λ s. s.least) (the_word o)))) t
+  -- a word that is in the bucket is its last
+  last_here : Long ls k → LastBefore ls (bucket_at ls k) (k + 1) (k + 1)
+  last_here long =
+      let e : k ≡ k + 1 - 1 = omega arith in
+      record {
+        within = omega arith;
+        long = λ p. subst (Long ls) e long;
+        there = λ p. ap (bucket_at ls) (sym e);
+        none_between = λ i l m s. absurd (omega arith);
+      }
 
-  -- it has met all
-  pub met_all : (alone : List ℕ) (place : ℕ) → place ≤ 0 → Told k k ss alone → Met ss k (bucket_at ss k d) (get_or ss k d) place →
-      Told (k + 1) k ss alone × ((o : Short) → Tells (k + 1) ss (get_or ss k o) 1)
-  met_all alone place none told a = (
-    (λ i l o. tells_apart (get_or ss i o) (get_or alone i 0) (a.others i (omega arith) l o) (told i l o)),
-    (λ o. inl (
-      refl,
-      λ i q l e. elim (cases_eq i k) [
-        | inl same ↦ ap (λ s. s.word) (ap (λ j. get_or ss j q) same ∙ the_word q ∙ sym (the_word o))
-        | inr ne ↦ absurd (a.others i (omega arith) (omega (arith, ne)) q (e ∙ ap (λ s. s.least) (the_word o)))
-      ],
-    )),
-  )
+  -- one word more
+  pub chained_more : (last before : List ℕ) → Long ls k → k < 1024 → Chained ls k last before →
+      Chained ls (k + 1) (set last (bucket_at ls k) (k + 1)) (set before k (get_or last (bucket_at ls k) 0))
+  chained_more last before long low h =
+      let b = bucket_at ls k in
+      let old = get_or last b 0 in
+      let lb : b < 1024 = bucket_below (sum_at ls k) in
+      let lp = h.places in
+      let ll = h.buckets in
+      let there : b < length last = omega arith in
+      let here : k < length before = omega arith in
+      record {
+        buckets = length-set last b (k + 1) ∙ h.buckets;
+        places = length-set before k old ∙ h.places;
+        lasts = λ a la. elim (cases_eq a b) [
+          | inl e ↦ rw (e, get_or-set_same last b (k + 1) 0 there) (last_here long)
+          | inr ne ↦ rw (get_or-set_other last b a (k + 1) 0 ne) (last_other a (get_or last a 0) (h.lasts a la) (λ o. ne (sym o)))
+        ];
+        befores = λ i li s. elim (cases_eq i k) [
+          | inl e ↦ rw (e, get_or-set_same before k old 0 here) (h.lasts b lb)
+          | inr ne ↦ rw (get_or-set_other before k i old 0 ne) (h.befores i (omega (arith, ne)) s)
+        ];
+      }
 
-  module _ (before : List ℕ) (befores : Befores ss k before) (place : ℕ) (pos : 0 < place) (a : Met ss k (bucket_at ss k d) (get_or ss k d) place) where
-    -- the place is before the word's
-    earlier : place - 1 < k
-    earlier = let w = a.within in omega arith
+  -- no such word stands from there up to a later place: the chains are as long
+  pub chained_up : (m : ℕ) (last before : List ℕ) → k ≤ m → ((i : ℕ) → k ≤ i → i < m → Long ls i → ⊥) → Chained ls k last before → Chained ls m last before
+  chained_up m last before up none h = record {
+    buckets = h.buckets;
+    places = h.places;
+    lasts = λ b lb.
+        let q = h.lasts b lb in
+        record {
+          within = let w = q.within in omega arith;
+          long = q.long;
+          there = q.there;
+          none_between = λ i l j s. elim (cases_lt i k) [ inl lt ↦ q.none_between i l lt s | inr le ↦ absurd (none i le j s) ];
+        };
+    befores = λ i li s. elim (cases_lt i k) [ inl lt ↦ h.befores i lt s | inr le ↦ absurd (none i le li s) ];
+  }
 
+  -- a word has met none yet
+  pub met_first : (last : ℕ) → LastBefore ls (bucket_at ls k) k last → Met ls k last
+  met_first last h = record { within = h.within; long = h.long; there = h.there; others = λ i m l s e. h.none_between i m l s (ap bucket_of e) }
+
+  module _ (last before : List ℕ) (h : Chained ls (k + 1) last before) (place : ℕ) (pos : 0 < place) (a : Met ls k place) where
     -- the word before it in the chain
-    link : LastBefore ss (bucket_at ss k d) (place - 1) (get_or before (place - 1) 0)
-    link = rw (a.there pos d) at (befores (place - 1) earlier d)
+    link : LastBefore ls (bucket_at ls k) (place - 1) (get_or before (place - 1) 0)
+    link = rw (a.there pos) at (h.befores (place - 1) (let w = a.within in omega arith) (a.long pos))
 
     -- stands before it
     pub place_falls : get_or before (place - 1) 0 < place
     place_falls = let w = link.within in omega arith
 
-    -- the word there, whatever stands past the list
-    the_other : (o : Short) → get_or ss (place - 1) o ≡ get_or ss (place - 1) d
-    the_other o = get_or_default ss (place - 1) o d (let e = earlier in omega arith)
-
     -- one word more is met
-    pub met_more : (get_or ss (place - 1) d).least ≢ (get_or ss k d).least → Met ss k (bucket_at ss k d) (get_or ss k d) (get_or before (place - 1) 0)
+    pub met_more : sum_at ls (place - 1) ≢ sum_at ls k → Met ls k (get_or before (place - 1) 0)
     met_more apart = record {
       within = let w = a.within in let v = place_falls in omega arith;
+      long = link.long;
       there = link.there;
-      others = λ i m l o e. elim (cases_lt i (place - 1)) [
-        | inl lt ↦ link.none_between i m lt o (ap bucket_of e)
+      others = λ i m l s e. elim (cases_lt i (place - 1)) [
+        | inl lt ↦ link.none_between i m lt s (ap bucket_of e)
         | inr le ↦ elim (cases_eq i (place - 1)) [
-          | inl same ↦ apart (ap (λ s. s.least) (sym (ap (λ j. get_or ss j o) same ∙ the_other o)) ∙ e)
-          | inr ne ↦ a.others i (omega (arith, ne)) l o e
+          | inl same ↦ apart (ap (sum_at ls) (sym same) ∙ e)
+          | inr ne ↦ a.others i (omega (arith, ne)) l s e
         ]
       ];
     }
 
-    -- the word there has the same least alias: neither is alone
-    pub met_same : (alone : List ℕ) → place - 1 < length alone → Different ss → Told k k ss alone → (get_or ss (place - 1) d).least ≡ (get_or ss k d).least →
-        Told (k + 1) k ss (set alone (place - 1) 0) × ((o : Short) → Tells (k + 1) ss (get_or ss k o) 0)
-    met_same alone room different told same =
-        let lp : place - 1 < length ss = let e = earlier in omega arith in
-        let apart : (get_or ss (place - 1) d).word ≢ (get_or ss k d).word = λ e. let p = different (place - 1) k d lp inside e in let l = earlier in omega arith in (
-          (λ i l o. elim (cases_eq i (place - 1)) [
-            | inl here ↦
-                rw (here, the_other o)
-                (inr (get_or-set_same alone (place - 1) 0 0 room, λ all. apart (sym (all k d (omega arith) (sym same)))))
-            | inr ne ↦
-                rw (get_or-set_other alone (place - 1) i 0 0 ne)
-                (elim (cases_eq (get_or ss i o).least (get_or ss k d).least) [
-                  | inl e ↦ elim (told i l o) [
-                    | inl y ↦ absurd (ne (sym (different (place - 1) i o lp (omega arith) (y.1 (place - 1) o earlier (ap (λ s. s.least) (the_other o) ∙ same ∙ sym e)))))
-                    | inr y ↦ inr (y.0, λ all. y.1 (λ j q m. all j q (omega arith)))
-                  ]
-                  | inr f ↦ tells_apart (get_or ss i o) (get_or alone i 0) f (told i l o)
-                ])
-          ]),
-          (λ o. rw (the_word o) (inr (refl, λ all. apart (all (place - 1) d (let e = earlier in omega arith) same)))),
-        )
-
--- the byte of one word more
-pub told_more : (ss : List Short) (k : ℕ) (alone : List ℕ) (byte : ℕ) → k < length alone → Told (k + 1) k ss alone →
-    ((d : Short) → Tells (k + 1) ss (get_or ss k d) byte) → Told (k + 1) (k + 1) ss (set alone k byte)
-told_more ss k alone byte room told own i l d = elim (cases_eq i k) [
-  | inl e ↦ rw (e, get_or-set_same alone k byte 0 room) (own d)
-  | inr ne ↦ rw (get_or-set_other alone k i byte 0 ne) (told i (omega (arith, ne)) d)
-]
+-- a word at a place is in the chains, by its bucket
+pub chained_met : (ls : List ℕ) (k sum b : ℕ) (last before : List ℕ) → Long ls k → length ls ≤ 33 → sum ≡ sum_at ls k → b ≡ bucket_of sum → Chained ls k last before →
+    Chained ls (k + 1) (set last b (k + 1)) (set before k (get_or last b 0))
+chained_met ls k sum b last before long few e is h =
+    subst (λ a. Chained ls (k + 1) (set last a (k + 1)) (set before k (get_or last a 0))) (sym (is ∙ ap bucket_of e))
+    (chained_more ls k last before long (let s = long.0 in omega (arith, s.0, s.1)) h)

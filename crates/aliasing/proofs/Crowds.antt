@@ -1,25 +1,26 @@
 -- Clear pairs: no other word of one letter or two has the same least alias.
-use Rattle.std.proofs.Common.{◌≡◌, ℕ, ◌+◌, ◌-◌, ◌<◌, ◌≤◌, Bool, true, false, cond, not, ◌&&◌, ◌||◌, eqb, ◌⊎◌, ◌↔◌, List, [], ◌∷◌, map, length, get_or, take, drop, Decides, sym, refl, ap, ◌∙◌, subst, inl, inr, arith, length-append, length-take, length-drop}
-use Rattle.std.proofs.lemmas.List.{get_or-map, length-map, get_or-append_right, get_or-take, get_or-drop}
+use Rattle.std.proofs.Common.{◌≡◌, ℕ, zero, suc, ◌+◌, ◌-◌, ◌*◌, ◌/◌, ◌%◌, ◌<◌, ◌≤◌, Bool, true, false, not, ◌&&◌, ◌||◌, eqb, ◌⊎◌, List, [], ◌∷◌, ◌++◌, map, length, get_or, take, drop, Decides, sym, refl, ap, ap₂, ◌∙◌, subst, inl, inr, arith, length-append, length-take, length-drop}
+use Rattle.std.proofs.lemmas.List.{get_or-map, length-map, map-append, get_or-take, get_or-drop, take_all, append_assoc, append-nil}
 use Rattle.std.proofs.lemmas.Grind.{same_number_lists}
-use Rattle.std.proofs.lemmas.Bool.{cases_eq, cases_Bool, or_cases, or_left, or_right, and_parts, and_from, eqb-true, eqb-false, eq-eqb, ne_eqb, not-true, not_from_false, both_ways, cond-true, cond-false}
+use Rattle.std.proofs.lemmas.Bool.{cases_eq, cases_lt, cases_Bool, or_cases, or_left, or_right, and_parts, and_from, eqb-true, eqb-false, eq-eqb, ne_eqb, not-true, not_from_false, both_ways, cond-true, cond-false}
 use Rattle.levels.specs.Arithmetic.{two}
-use Rattle.levels.specs.Words.{word_length}
-use Rattle.levels.specs.Space.{Word}
+use Rattle.levels.specs.Words.{word_length, code_sum}
 use Rattle.levels.specs.Generated.{SameWords}
 use Rattle.levels.specs.Basis.{Echelon, LeastAlias}
 use Rattle.levels.specs.Alias.{alias_set}
 use Rattle.levels.specs.Lawful.{lawful_two}
-use Rattle.levels.proofs.Reduced.{least_same}
+use Rattle.levels.proofs.Reduced.{space_at, alias_word, least_same}
 use Rattle.levels.proofs.Multiplicity.{in_alias_set, in_alias_set_from}
-use Rattle.levels.proofs.Places.{In, in_left, in_right, in_append}
+use Rattle.levels.proofs.Places.{In}
 use Rattle.levels.proofs.Ascending.{in_here, in_later, in_cons, in_none}
-use Rattle.aliasing.specs.Clear.{pairs, crowded, clear_byte}
-use Rattle.aliasing.specs.Buckets.{AloneAmong, Told}
-use Rattle.aliasing.specs.declared.clear.Short.{Short}
-use Rattle.aliasing.specs.Short.{letters_from, short_words, LeastAliases}
+use Rattle.aliasing.specs.Clear.{pair, pairs, pairs_with, pairs_from, crowded, clear_byte, clear_bytes}
+use Rattle.aliasing.specs.Short.{two_letters, LeastAliases, Settled, Stands, sum_at}
+use Rattle.aliasing.specs.Buckets.{Alone, Tells, Told}
+use Rattle.aliasing.proofs.Evens.{word_below}
+use Rattle.aliasing.proofs.Factors.{factors_same, one_twice, pair_stands, sum_pair}
 use Rattle.aliasing.proofs.Ladders.{alias-is-word}
-use Rattle.aliasing.proofs.Shorts.{letter_word, word_letter, pair_word, word_pair, letters_length}
+use Rattle.aliasing.proofs.Shorts.{pairs_most}
+use Rattle.aliasing.proofs.Sums.{pair_two, two_is, short_is, short_factors, least_two}
 
 -- a word of one letter, or one of two other than p
 abbrev Crowd : ℕ → ℕ → Type 0
@@ -61,105 +62,169 @@ crowded_to p (x ∷ xs) z q c = elim (in_cons x z xs q) [
   | inr r ↦ or_right (crowds p x) (crowded p xs) (crowded_to p xs z r c)
 ]
 
-module _ (n : ℕ) (high : n ≤ 32) where
-  -- short words are words
-  pub short_word : (z : ℕ) → In z (short_words n) → Word two n z
-  short_word z p = elim (in_append (letters_from 0 n) (pairs n) z p) [ inl q ↦ (letter_word n z high q).0 | inr q ↦ (pair_word n z high q).0 ]
+-- the pairs of a factor with k others, one after the other
+pairs_with_at : (i j k m : ℕ) → m < k → get_or (pairs_with i j k) m 0 ≡ pair i (j + m)
+pairs_with_at i j zero m l = absurd (omega arith)
+pairs_with_at i j (suc k) zero l = ap (pair i) (omega arith)
+pairs_with_at i j (suc k) (suc m) l = pairs_with_at i (suc j) k m (omega arith) ∙ ap (pair i) (omega arith)
 
-  -- a short word other than a pair crowds its set
-  short_crowds : (p z : ℕ) → In z (short_words n) → (z ≡ p → ⊥) → Crowd p z
-  short_crowds p z h d = elim (in_append (letters_from 0 n) (pairs n) z h) [ inl q ↦ inl (letter_word n z high q).1 | inr q ↦ inr ((pair_word n z high q).1, d) ]
+-- there are so many
+pairs_with_length : (i j k : ℕ) → length (pairs_with i j k) ≡ k
+pairs_with_length i j zero = refl
+pairs_with_length i j (suc k) = ap suc (pairs_with_length i (suc j) k)
 
-  -- and a word that crowds the set of a pair is another short word
-  crowds_short : (p z : ℕ) → In p (pairs n) → Word two n z → Crowd p z → In z (short_words n) × (z ≡ p → ⊥)
-  crowds_short p z h hz c = elim c [
-    | inl a ↦ (in_left (letters_from 0 n) (pairs n) z (word_letter n z hz a), λ e. let l = (pair_word n p high h).1 in let s = ap (word_length two) e in omega arith)
-    | inr b ↦ (in_right (letters_from 0 n) (pairs n) z (word_pair n z hz b.0), b.1)
-  ]
+-- rows are pushed up to a factor, from 1: the bytes of the pairs of the others are left
+abbrev pub Pushed : ℕ → List ℕ → ℕ → List ℕ → Type 0
+Pushed n ws i bytes = bytes ++ map (clear_byte n ws) (pairs_from (i - 1) (n - (i - 1))) ≡ clear_bytes n ws
 
-  module _ (ws rows : List ℕ) (e : Echelon two n rows) (same : SameWords two n rows ws) (ss : List Short)
-      (words : map (λ s. s.word) ss ≡ short_words n) (least : LeastAliases n rows ss) where
-    -- there are as many
-    many : length ss ≡ length (short_words n)
-    many = sym (length-map ss (λ s. s.word)) ∙ ap length words
+module _ (n : ℕ) (high : n ≤ 32) (ws rows ls : List ℕ) (e' : Echelon two n rows) (same : SameWords two n rows ws)
+    (size : length ls ≡ n + 1) (least : LeastAliases n rows ls) where
+  -- a least alias of one letter or two is its own
+  pub settled : Settled ls
+  settled p i j s l e =
+      let a = p / 32 in
+      let b = p % 32 + 1 in
+      let ab : a < b = let q = s.0 in omega arith in
+      let bn : b ≤ n = let q = s.1 in omega arith in
+      let w = two_letters a b in
+      let r = sum_at ls p in
+      let hw = (short_is n high a b ab bn).0 in
+      let la = least_two n high rows ls e' least a b ab bn s.1 in
+      let below = word_below n r (alias_word two lawful_two n (space_at two lawful_two n w hw) rows w r hw la) in
+      let jn : j ≤ n = elim (cases_lt n j) [ inl lt ↦ absurd (omega (arith, one_twice n j lt)) | inr le ↦ le ] in
+      let lr = least_two n high rows ls e' least i j l jn (omega arith) in
+      let same = (least_same two lawful_two n rows w (two_letters i j) r (code_sum two (get_or ls i 0) (get_or ls j 0)) hw (short_is n high i j l jn).0 la lr
+      ).1 (la.alias.0, la.alias.1, e ∙ la.alias.2) in
+      (omega arith, sum_pair ls i j l (omega arith) ∙ sym same)
 
-    -- the short word at a place
-    short-at : (i : ℕ) (d : Short) → i < length ss → (get_or ss i d).word ≡ get_or (short_words n) i 0
-    short-at i d l = sym (get_or-map (λ s. s.word) ss i d 0 l) ∙ ap (λ xs. get_or xs i 0) words
+  module _ (i j : ℕ) (low : 1 ≤ i) (l : i < j) (h : j ≤ n) where
+    -- the word of two factors
+    abbrev p : ℕ
+    p = two_letters i j
 
-    -- it is one
-    short-in : (i : ℕ) (d : Short) → i < length ss → In (get_or ss i d).word (short_words n)
-    short-in i d l = (i, omega (arith, many), sym (short-at i d l))
+    -- its place
+    abbrev place : ℕ
+    place = 32 * i + j - 1
 
-    -- its least alias
-    least_at : (i : ℕ) (d : Short) → i < length ss → LeastAlias two n rows (get_or ss i d).word (get_or ss i d).least
-    least_at i d l = least i d l e (short_word (get_or ss i d).word (short-in i d l))
+    -- and its least alias
+    least_here : LeastAlias two n rows p (code_sum two (get_or ls i 0) (get_or ls j 0))
+    least_here = least_two n high rows ls e' least i j l h (omega arith)
 
-    module _ (p : Short) (h : In p.word (pairs n)) (lp : LeastAlias two n rows p.word p.least) where
-      -- a pair alone with its least alias is clear
-      alone-clear : AloneAmong (length ss) ss p → crowded p.word (alias_set two n ws p.word) ≡ true → ⊥
-      alone-clear alone crowd =
-          let hp = (pair_word n p.word high h).0 in
-          let c = crowded_from p.word (alias_set two n ws p.word) crowd in
-          let z = c.0 in
-          let a = in_alias_set_from two lawful_two n ws p.word z c.1 in
-          let hz = alias-is-word two lawful_two n p.word hp ws z c.1 in
-          let s = crowds_short p.word z h hz c.2 in
-          let i = s.0.0 in
-          let li : i < length ss = omega (arith, s.0.1, many) in
-          let o = get_or ss i p in
-          let at : o.word ≡ z = short-at i p li ∙ s.0.2 in
-          let r = (least_same two lawful_two n rows p.word o.word p.least o.least hp (short_word o.word (short-in i p li)) lp (least_at i p li)
-          ).1 (a.0, (same a.0).1 a.1, at ∙ a.2) in
-          s.1 (sym at ∙ alone i p li (sym r))
+    -- a word with the same least alias has the same place, or another word is in the alias set
+    same_place : (a b : ℕ) → a < b → two_letters a b ≡ p → 32 * a + b - 1 ≡ place
+    same_place a b m s = let q = factors_same a b i j m l s in omega (arith, q.0, q.1)
 
-      -- and a clear pair is alone
-      clear-alone : crowded p.word (alias_set two n ws p.word) ≡ false → AloneAmong (length ss) ss p
-      clear-alone clear i d li r =
-          let z = (get_or ss i d).word in
-          let hp = (pair_word n p.word high h).0 in
-          let q = (least_same two lawful_two n rows p.word z p.least (get_or ss i d).least hp (short_word z (short-in i d li)) lp (least_at i d li)).0 (sym r) in
-          let member : In z (alias_set two n ws p.word) = subst (λ w. In w (alias_set two n ws p.word)) (sym q.2) (in_alias_set two lawful_two n ws p.word q.0 ((same q.0).0 q.1)) in
-          elim (cases_eq z p.word) [
-            | inl s ↦ s
-            | inr ne ↦ absurd (both_ways (crowded p.word (alias_set two n ws p.word)) clear (crowded_to p.word (alias_set two n ws p.word) z member (short_crowds p.word z (short-in i d li) ne)))
+    -- a pair alone with its least alias is clear
+    alone-clear : Alone ls place → crowded p (alias_set two n ws p) ≡ true → ⊥
+    alone-clear alone crowd =
+        let hp = (two_is n high i j low l h).0 in
+        let c = crowded_from p (alias_set two n ws p) crowd in
+        let z = c.0 in
+        let x = in_alias_set_from two lawful_two n ws p z c.1 in
+        let hz = alias-is-word two lawful_two n p hp ws z c.1 in
+        let s = short_factors n high z hz (elim c.2 [ inl y ↦ inl y | inr y ↦ inr y.0 ]) in
+        let a = s.0 in
+        let b = s.1 in
+        let ab = s.2 in
+        let bn = s.3 in
+        let hw = (short_is n high a b ab bn).0 in
+        let r = (least_same two lawful_two n rows p (two_letters a b) (code_sum two (get_or ls i 0) (get_or ls j 0)) (code_sum two (get_or ls a 0) (get_or ls b 0)) hp hw
+        least_here (least_two n high rows ls e' least a b ab bn (omega arith))).1 (x.0, (same x.0).1 x.1, s.4 ∙ x.2) in
+        let there = alone (32 * a + b - 1) (pair_stands ls a b ab (omega arith) (omega arith))
+        (sum_pair ls a b ab (omega arith) ∙ sym r ∙ sym (sum_pair ls i j l (omega arith))) in
+        let fa : a ≡ i = omega arith in
+        let fb : b ≡ j = omega arith in
+        let is : z ≡ p = sym s.4 ∙ ap₂ two_letters fa fb in
+        elim c.2 [
+          | inl y ↦ let t = ap (word_length two) is in let w = (two_is n high i j low l h).1 in omega arith
+          | inr y ↦ y.1 is
+        ]
+
+    -- and a clear pair is alone
+    clear-alone : crowded p (alias_set two n ws p) ≡ false → Alone ls place
+    clear-alone clear k s r =
+        let a = k / 32 in
+        let b = k % 32 + 1 in
+        let ab : a < b = let q = s.0 in omega arith in
+        let bn : b ≤ n = let q = s.1 in omega arith in
+        let z = two_letters a b in
+        let hp = (two_is n high i j low l h).0 in
+        let hz = short_is n high a b ab bn in
+        let q = (least_same two lawful_two n rows p z (code_sum two (get_or ls i 0) (get_or ls j 0)) (sum_at ls k) hp hz.0
+        least_here (least_two n high rows ls e' least a b ab bn s.1)).0 (sym (sum_pair ls i j l (omega arith)) ∙ sym r) in
+        let member : In z (alias_set two n ws p) = subst (λ w. In w (alias_set two n ws p)) (sym q.2) (in_alias_set two lawful_two n ws p q.0 ((same q.0).0 q.1)) in
+        elim (cases_eq z p) [
+          | inl s ↦ let t = same_place a b ab s in omega arith
+          | inr ne ↦ absurd (both_ways (crowded p (alias_set two n ws p)) clear
+              (crowded_to p (alias_set two n ws p) z member (elim hz.1 [ inl y ↦ inl y | inr y ↦ inr (y, ne) ])))
+        ]
+
+    -- so a byte that tells of it is its byte
+    pub told-byte : (byte : ℕ) → Tells ls place byte → byte ≡ clear_byte n ws (pair (i - 1) (j - 1))
+    told-byte byte t =
+        let test = crowded p (alias_set two n ws p) in
+        elim (cases_Bool test) [
+          | inl c ↦ elim t [
+            | inl y ↦ absurd (alone-clear y.1 c)
+            | inr y ↦ y.0 ∙ sym (cond-true {A = ℕ} test 0 1 c)
           ]
-
-      -- so the test gives the byte
-      alone-byte : (b : Bool) → (b ≡ true) ↔ AloneAmong (length ss) ss p → cond b 1 0 ≡ clear_byte n ws p.word
-      alone-byte b d = elim (cases_Bool (crowded p.word (alias_set two n ws p.word))) [
-        | inl c ↦ elim (cases_Bool b) [
-          | inl y ↦ absurd (alone-clear (d.0 y) c)
-          | inr f ↦ cond-false {A = ℕ} b 1 0 f ∙ sym (cond-true {A = ℕ} (crowded p.word (alias_set two n ws p.word)) 0 1 c)
+          | inr c ↦ elim t [
+            | inl y ↦ y.0 ∙ sym (cond-false {A = ℕ} test 0 1 c)
+            | inr y ↦ absurd (y.1 (clear-alone c))
+          ]
         ]
-        | inr c ↦ cond-true {A = ℕ} b 1 0 (d.1 (clear-alone c)) ∙ sym (cond-false {A = ℕ} (crowded p.word (alias_set two n ws p.word)) 0 1 c)
-      ]
+        ∙ ap (clear_byte n ws) (pair_two n high i j low l)
 
-    -- the pair at a place behind the letters
-    pub pair-byte : (j : ℕ) (d : Short) → j < length (pairs n) → (p : Short) → p ≡ get_or ss (n + j) d → (b : Bool) → (b ≡ true) ↔ AloneAmong (length ss) ss p → cond b 1 0 ≡ clear_byte n ws (get_or (pairs n) j 0)
-    pair-byte j d l p is b t =
-        let lt : n + j < length ss = omega (arith, many, length-append (letters_from 0 n) (pairs n), letters_length 0 n) in
-        let at : p.word ≡ get_or (pairs n) j 0 =
-        ap (λ s. s.word) is ∙ short-at (n + j) d lt ∙ get_or-append_right (letters_from 0 n) (pairs n) n (n + j) 0 (letters_length 0 n) (omega arith)
-        ∙ ap (λ i. get_or (pairs n) i 0) (let s : n + j - n ≡ j = omega arith in s) in
-        let lp : LeastAlias two n rows p.word p.least = subst (λ s. LeastAlias two n rows s.word s.least) (sym is) (least_at (n + j) d lt) in
-        alone-byte p (j, l, sym at) lp b t ∙ ap (clear_byte n ws) at
+  module _ (alone : List ℕ) (room : length alone ≡ 1024) (told : Told ls alone) (i : ℕ) (low : 1 ≤ i) (l : i < n) where
+    -- the bytes of the pairs of a factor with each later one
+    row-bytes : take (32 * i + n - 33 * i) (drop (33 * i) alone) ≡ map (clear_byte n ws) (pairs_with (i - 1) i (n - i))
+    row-bytes =
+        let k = 32 * i + n - 33 * i in
+        let many : k ≡ n - i = omega arith in
+        let ps = pairs_with (i - 1) i (n - i) in
+        let row = take k (drop (33 * i) alone) in
+        let count = pairs_with_length (i - 1) i (n - i) in
+        let long : length row ≡ n - i = omega (arith, length-take k (drop (33 * i) alone), length-drop (33 * i) alone) in
+        same_number_lists row (map (clear_byte n ws) ps) (long ∙ sym (length-map ps (clear_byte n ws) ∙ count))
+        (λ m lm.
+        let lt : m < n - i = omega arith in
+        let j = i + m + 1 in
+        let at : 32 * i + j - 1 ≡ 33 * i + m = omega arith in
+        let stands : Stands ls (32 * i + j - 1) = pair_stands ls i j (omega arith) (omega arith) (omega arith) in
+        get_or-take k (drop (33 * i) alone) m 0 (omega arith)
+        ∙ get_or-drop (33 * i) alone m 0
+        ∙ ap (λ q. get_or alone q 0) (sym at)
+        ∙ told-byte i j low (omega arith) (omega arith) (get_or alone (32 * i + j - 1) 0) (told (32 * i + j - 1) stands)
+        ∙ ap (λ q. clear_byte n ws (pair (i - 1) q)) (let e : j - 1 ≡ i + m = omega arith in e)
+        ∙ ap (clear_byte n ws) (sym (pairs_with_at (i - 1) i (n - i) m lt))
+        ∙ sym (get_or-map (clear_byte n ws) ps m 0 0 (omega arith)))
 
-    -- so the bytes behind those of the letters are those of the pairs
-    pub told-bytes : (alone : List ℕ) → Told (length ss) (length ss) ss alone → length ss ≤ length alone → take (length ss - n) (drop n alone) ≡ map (clear_byte n ws) (pairs n)
-    told-bytes alone told room =
-        let all : length ss ≡ n + length (pairs n) = omega (arith, many, length-append (letters_from 0 n) (pairs n), letters_length 0 n) in
-        let k = length ss - n in
-        let d : Short = record { word = 0; least = 0 } in
-        let size : length (take k (drop n alone)) ≡ length (pairs n) = omega (arith, length-take k (drop n alone), length-drop n alone) in
-        same_number_lists (take k (drop n alone)) (map (clear_byte n ws) (pairs n)) (size ∙ sym (length-map (pairs n) (clear_byte n ws)))
-        (λ j l.
-        let lj : j < length (pairs n) = omega arith in
-        let p = get_or ss (n + j) d in
-        let at : get_or (take k (drop n alone)) j 0 ≡ get_or alone (n + j) 0 = get_or-take k (drop n alone) j 0 (omega arith) ∙ get_or-drop n alone j 0 in
-        at
-        ∙ elim (told (n + j) (omega arith) d) [
-          | inl y ↦ y.0 ∙ pair-byte j d lj p refl true ((λ t. y.1), (λ a. refl))
-          | inr y ↦ y.0 ∙ pair-byte j d lj p refl false ((λ t. absurd (both_ways false refl t)), (λ a. absurd (y.1 a)))
-        ]
-        ∙ sym (get_or-map (clear_byte n ws) (pairs n) j 0 0 lj))
+    -- one row more
+    pub pushed_more : (old new : List ℕ) → new ≡ take 496 (old ++ take (32 * i + n - 33 * i) (drop (33 * i) alone)) → Pushed n ws i old → Pushed n ws (i + 1) new
+    pushed_more old new is h =
+        let f = clear_byte n ws in
+        let row = map f (pairs_with (i - 1) i (n - i)) in
+        let rest = map f (pairs_from i (n - i)) in
+        let count : n - (i - 1) ≡ suc (n - i) = omega arith in
+        let next : suc (i - 1) ≡ i = omega arith in
+        let split : map f (pairs_from (i - 1) (n - (i - 1))) ≡ row ++ rest =
+        ap (λ k. map f (pairs_from (i - 1) k)) count
+        ∙ ap (λ j. map f (pairs_with (i - 1) j (n - i) ++ pairs_from j (n - i))) next
+        ∙ map-append f (pairs_with (i - 1) i (n - i)) (pairs_from i (n - i)) in
+        let all : (old ++ row) ++ rest ≡ clear_bytes n ws = append_assoc old row rest ∙ ap (λ xs. old ++ xs) (sym split) ∙ h in
+        let few : length (old ++ row) ≤ 496 = omega (arith, ap length all, length-append (old ++ row) rest, length-map (pairs n) f, pairs_most n high) in
+        let whole : new ≡ old ++ row = is ∙ ap (λ xs. take 496 (old ++ xs)) row-bytes ∙ take_all 496 (old ++ row) few in
+        let same_rest : i + 1 - 1 ≡ i = omega arith in
+        ap (λ j. new ++ map f (pairs_from j (n - j))) same_rest ∙ ap (λ xs. xs ++ rest) whole ∙ all
+
+-- no pairs are left
+pub pushed_all : (n : ℕ) (ws : List ℕ) (i : ℕ) (bytes : List ℕ) → n ≤ i → Pushed n ws i bytes → bytes ≡ clear_bytes n ws
+pushed_all n ws i bytes l h =
+    let f = clear_byte n ws in
+    let none : (a k : ℕ) → k ≤ 1 → map f (pairs_from a k) ≡ [] = left f in
+    sym (append-nil bytes) ∙ ap (λ xs. bytes ++ xs) (sym (none (i - 1) (n - (i - 1)) (omega arith))) ∙ h
+  where
+    left : (f : ℕ → ℕ) (a k : ℕ) → k ≤ 1 → map f (pairs_from a k) ≡ []
+    left f a zero m = refl
+    left f a (suc zero) m = refl
+    left f a (suc (suc k)) m = absurd (omega arith)

@@ -206,31 +206,41 @@ module _ (A : Arithmetic) (L : Lawful A) (n : ℕ) where
         F.times_one d ld,
       )
 
+  -- a multiple of a word takes from another word the digit at the place of its own highest digit
+  pub cancels_digit : (k a b : ℕ) → k < n → Word A n a → Word A n b → power A k ≤ b → b < power A (suc k) →
+      (c : ℕ) × (c < A.s) × (digit A k (word_sum A n a (word_multiple A n c b)) ≡ 0)
+  cancels_digit k a b l ha hb low high =
+      let F = L.field in
+      let x = digit A k a in
+      let y = digit A k b in
+      let ly = digit_level k b l hb in
+      let o = F.opposite x (digit_level k a l ha) in
+      let i = F.inverse y ly (digit_top A k b low high).1 in
+      let c = A.times o.0 i.0 in
+      let lc = F.times_level o.0 i.0 o.1 i.1 in (
+        c,
+        lc,
+        cc (
+          digit_sum k a c b l ha hb lc,
+          F.times_assoc o.0 i.0 y o.1 i.1 ly,
+          F.times_comm i.0 y i.1 ly,
+          i.2,
+          F.times_comm o.0 1 o.1 F.two_levels,
+          F.times_one o.0 o.1,
+          o.2,
+        ),
+      )
+
   -- of two words with the highest digit at one place, a multiple of the one takes that digit from the other
   pub cancels : (k a b : ℕ) → k < n → Word A n a → Word A n b → power A k ≤ a → a < power A (suc k) → power A k ≤ b → b < power A (suc k) →
       (c : ℕ) × (c < A.s) × (word_sum A n a (word_multiple A n c b) < power A k)
   cancels k a b l ha hb la ha' lb hb' =
-      let F = L.field in
-      let x = digit A k a in
-      let y = digit A k b in
-      let lx = digit_level k a l ha in
-      let ly = digit_level k b l hb in
-      let o = F.opposite x lx in
-      let i = F.inverse y ly (digit_top A k b lb hb').1 in
-      let c = A.times o.0 i.0 in
-      let lc = F.times_level o.0 i.0 o.1 i.1 in
+      let r = cancels_digit k a b l ha hb lb hb' in
+      let c = r.0 in
+      let lc = r.1 in
+      let none = r.2 in
       let m = word_multiple A n c b in
       let z = word_sum A n a m in
-      let none : digit A k z ≡ 0 =
-      cc (
-        digit_sum k a c b l ha hb lc,
-        F.times_assoc o.0 i.0 y o.1 i.1 ly,
-        F.times_comm i.0 y i.1 ly,
-        i.2,
-        F.times_comm o.0 1 o.1 F.two_levels,
-        F.times_one o.0 o.1,
-        o.2,
-      ) in
       let high : z / power A (suc k) ≡ 0 =
       sum_high (suc k) a m ha (multiple_is_word A L n c b lc hb) (multiple_low (suc k) c b lc hb hb') ∙ div-eq_of_lt ha' in
       let below : z < power A (suc k) = omega (arith, lt-div-mul-add {a = z} {b = power A (suc k)} (power_pos A (suc k)), ap (λ q. q * power A (suc k)) high, zero-mul (power A (suc k))) in (

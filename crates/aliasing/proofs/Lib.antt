@@ -6,6 +6,7 @@ pub mod Counts
 pub mod Crowds
 pub mod Evens
 pub mod Exact
+pub mod Factors
 pub mod Filled
 pub mod Floors
 pub mod Heights
@@ -14,6 +15,7 @@ pub mod Ladders
 pub mod Listed
 pub mod Lower
 pub mod Moved
+pub mod Others
 pub mod Parity
 pub mod Placed
 pub mod Repeats

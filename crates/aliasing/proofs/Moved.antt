@@ -22,7 +22,7 @@ use Rattle.levels.proofs.Multiplicity.{in_alias_set, in_alias_set_from, alias_se
 use Rattle.levels.proofs.Sets.{ascending_rising, rising_places}
 use Rattle.levels.specs.Generated.{generated}
 use Rattle.aliasing.specs.Blocks.{sums_below, block}
-use Rattle.aliasing.proofs.Heights.{power, power_pos, top, digit, digit_top, digit_level, digit_sum, Over, over_lt, lt_over, sum_high, multiple_low, sums_apart}
+use Rattle.aliasing.proofs.Heights.{power, power_pos, top, digit, digit_level, digit_sum, Over, over_lt, lt_over, sum_high, multiple_low, sums_apart, cancels_digit}
 use Rattle.aliasing.proofs.Joins.{Ordered, in_joined, in_joined_from, joined-ordered}
 use Rattle.aliasing.proofs.Ladders.{in_sums, in_block_from, block-ordered, alias-is-word}
 
@@ -42,27 +42,12 @@ module _ (A : Arithmetic) (L : Lawful A) (n : ℕ) where
   -- a word that no multiple of another makes smaller has digit 0 at the other's highest digit
   pub least_digit : (k v z : ℕ) → k < n → Word A n v → Word A n z → power A k ≤ v → v < power A (suc k) → Smallest A n v z → digit A k z ≡ 0
   least_digit k v z l hv hz low high small =
-      let F = L.field in
-      let x = digit A k z in
-      let y = digit A k v in
-      let lx = digit_level A L n k z l hz in
-      let ly = digit_level A L n k v l hv in
-      let o = F.opposite x lx in
-      let i = F.inverse y ly (digit_top A k v low high).1 in
-      let c = A.times o.0 i.0 in
-      let lc = F.times_level o.0 i.0 o.1 i.1 in
+      let r = cancels_digit A L n k z v l hz hv low high in
+      let c = r.0 in
+      let lc = r.1 in
+      let none = r.2 in
       let m = word_multiple A n c v in
       let z' = word_sum A n z m in
-      let none : digit A k z' ≡ 0 =
-      cc (
-        digit_sum A L n k z c v l hz hv lc,
-        F.times_assoc o.0 i.0 y o.1 i.1 ly,
-        F.times_comm i.0 y i.1 ly,
-        i.2,
-        F.times_comm o.0 1 o.1 F.two_levels,
-        F.times_one o.0 o.1,
-        o.2,
-      ) in
       let same : z' / power A (suc k) ≡ z / power A (suc k) =
       sum_high A L n (suc k) z m hz (multiple_is_word A L n c v lc hv) (multiple_low A L n (suc k) c v lc hv high) in
       elim (cases_eq (digit A k z) 0) [

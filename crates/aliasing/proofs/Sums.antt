@@ -1,23 +1,24 @@
--- The least alias of a pair is the sum of those of its letters.
-use Rattle.std.proofs.Common.{◌≡◌, ℕ, zero, suc, ◌+◌, ◌-◌, ◌*◌, ◌^◌, ◌<◌, ◌≤◌, List, [], ◌∷◌, ◌++◌, map, length, get_or, take, sym, ap, ◌∙◌, subst, ap₂, arith, length-append, length-take}
+-- Words of one letter and of two by their factors: which they are, and their least aliases.
+use Rattle.std.proofs.Common.{◌≡◌, ℕ, zero, suc, ◌+◌, ◌-◌, ◌*◌, ◌^◌, ◌<◌, ◌≤◌, ◌⊎◌, List, length, get_or, sym, ap, ◌∙◌, subst, ap₂, inl, inr, pow-suc, arith}
 use lib.Bits.{bit_xor, xor_zero_l, xor_zero_r}
 use Rattle.std.proofs.lemmas.Nat.{pow_pos, xor_block}
-use Rattle.std.proofs.Math.Pow.{pow-lt}
-use Rattle.std.proofs.lemmas.List.{length-map, get_or-map, get_or_append_left}
+use Rattle.std.proofs.lemmas.Bool.{cases_eq, cases_lt}
 use Rattle.levels.specs.Arithmetic.{Arithmetic, Lawful, two}
 use Rattle.levels.specs.Lawful.{lawful_two}
-use Rattle.levels.specs.Words.{word_sum, code_sum}
+use Rattle.levels.specs.Words.{word_sum, code_sum, word_length}
 use Rattle.levels.specs.Space.{Word}
 use Rattle.levels.specs.Basis.{Echelon, LeastAlias}
 use Rattle.levels.proofs.Generation.{generates_word, generates_sum}
 use Rattle.levels.proofs.Lengths.{sum_code}
 use Rattle.levels.proofs.Leads.{smallest_sum}
+use Rattle.levels.proofs.Places.{In, in_left, in_right, in_append, in_map, in_map_from}
+use Rattle.levels.proofs.Ascending.{in_none}
 use Rattle.levels.proofs.Reduced.{space_at, clear_alias, alias_word, alias_clear}
-use Rattle.aliasing.specs.Clear.{letter, pair, pairs, pairs_from}
-use Rattle.aliasing.specs.declared.clear.Short.{Short}
-use Rattle.aliasing.specs.Short.{letters_from}
-use Rattle.aliasing.proofs.Evens.{sum_xor}
-use Rattle.aliasing.proofs.Shorts.{Lists, list_more, letter_word, letters_length}
+use Rattle.aliasing.specs.Clear.{letter, pair, pairs_with, pairs_from}
+use Rattle.aliasing.specs.Short.{one_letter, two_letters, LeastAliases, Short}
+use Rattle.aliasing.proofs.Evens.{below_word, sum_xor}
+use Rattle.aliasing.proofs.Factors.{grow, letter_one, one_less, one_twice}
+use Rattle.aliasing.proofs.Shorts.{Letters, letters_from, letters_length, pairs_with_map, letters_are, pairs_are, are_letters, are_pairs, many_length, length_many, letter_word, word_letter, pair_word, word_pair}
 
 -- the least alias of a sum is the sum of the least aliases
 pub least_sum : (A : Arithmetic) → Lawful A → (n : ℕ) (rows : List ℕ) (a b r q : ℕ) → Echelon A n rows → Word A n a → Word A n b →
@@ -50,58 +51,141 @@ letter_at i zero m l = absurd (omega arith)
 letter_at i (suc k) zero l = ap letter (omega arith)
 letter_at i (suc k) (suc m) l = letter_at (suc i) k m (omega arith) ∙ ap letter (omega arith)
 
--- letters are words
-letter_is_word : (n i : ℕ) → n ≤ 32 → i < n → Word two n (letter i)
-letter_is_word n i high l = (letter_word n (letter i) high (i, omega (arith, letters_length 0 n), letter_at 0 n i l ∙ ap letter (omega arith))).0
+-- a letter of the list is that of a factor
+letter_of : (i k z : ℕ) → In z (letters_from i k) → (m : ℕ) × (m < k) × (letter (i + m) ≡ z)
+letter_of i k z p = let l : p.0 < k = omega (arith, p.1, letters_length i k) in (p.0, l, sym (letter_at i k p.0 l) ∙ p.2)
 
--- a pair is the sum of its letters
-pair_sum : (n i j : ℕ) → n ≤ 32 → i < j → j < n → word_sum two n (letter i) (letter j) ≡ pair i j
-pair_sum n i j high l m =
-    sum_xor n (letter i) (letter j) (letter_is_word n i high (omega arith)) (letter_is_word n j high m)
-    ∙ ap₂ bit_xor (let e : 2 ^ i ≡ 0 * 2 ^ j + 2 ^ i = omega arith in e) (let e : 2 ^ j ≡ 1 * 2 ^ j + 0 = omega arith in e)
-    ∙ xor_block j 0 1 (2 ^ i) 0 (pow-lt l) (pow_pos j)
-    ∙ omega (arith, xor_zero_l 1, xor_zero_r (2 ^ i))
+-- that of each factor is in the list
+letter_in : (i k m : ℕ) → m < k → In (letter (i + m)) (letters_from i k)
+letter_in i k m l = (m, omega (arith, letters_length i k), letter_at i k m l)
 
-module _ (n : ℕ) (high : n ≤ 32) (rows : List ℕ) (ss : List Short) (d : Short) where
-  -- all letters are listed
-  pub letters_done : (i : ℕ) → n ≤ i → Lists n rows ss (letters_from i (n - i) ++ pairs n) → Lists n rows ss (pairs_from 0 (n - 0)) × (n ≤ length ss)
-  letters_done i l h =
-      let none : n - i ≡ 0 = omega arith in
-      let done : Lists n rows ss (pairs n) = rw none at h in
-      let whole : n ≡ n - 0 = omega arith in
-      (subst (λ k. Lists n rows ss (pairs_from 0 k)) whole done, omega (arith, ap length done.words, length-append (map (λ s. s.word) ss) (pairs n), length-map ss (λ s. s.word), length-append (letters_from 0 n) (pairs n), letters_length 0 n))
+-- a pair of the list is that of two factors
+pair_of : (i k z : ℕ) → In z (pairs_from i k) → (a : ℕ) × (b : ℕ) × (a < b) × (b < i + k) × (pair a b ≡ z)
+pair_of i zero z p = absurd (in_none z p)
+pair_of i (suc k) z p = elim (in_append (pairs_with i (suc i) k) (pairs_from (suc i) k) z p) [
+  | inl q ↦
+      let r = in_map_from (λ l. letter i + l) (letters_from (suc i) k) z (rw (pairs_with_map i (suc i) k) at q) in
+      let s = letter_of (suc i) k r.0 r.1 in
+      let m = s.1 in
+      (i, suc i + s.0, omega arith, omega arith, ap (λ l. letter i + l) s.2 ∙ sym r.2)
+  | inr q ↦ let r = pair_of (suc i) k z q in let m = r.3 in (r.0, r.1, r.2, omega arith, r.4)
+]
 
-  -- the letter at a place of the list
-  item_letter : (rest : List ℕ) → Lists n rows ss rest → n ≤ length ss → (i : ℕ) → i < n → (get_or ss i d).word ≡ letter i
-  item_letter rest h many i l =
-      let li : i < length ss = omega arith in
-      sym (get_or-map (λ s. s.word) ss i d 0 li)
-      ∙ sym (get_or_append_left (map (λ s. s.word) ss) rest 0 i (omega (arith, length-map ss (λ s. s.word))))
-      ∙ ap (λ xs. get_or xs i 0) h.words
-      ∙ get_or_append_left (letters_from 0 n) (pairs n) 0 i (omega (arith, letters_length 0 n))
-      ∙ letter_at 0 n i l ∙ ap letter (omega arith)
+-- that of each two factors is in the list
+pair_in : (i k a b : ℕ) → i ≤ a → a < b → b < i + k → In (pair a b) (pairs_from i k)
+pair_in i zero a b l m h = absurd (omega arith)
+pair_in i (suc k) a b l m h = elim (cases_eq a i) [
+  | inl e ↦
+      let there : suc i + (b - suc i) ≡ b = omega arith in
+      let p : In (letter b) (letters_from (suc i) k) = subst (λ c. In (letter c) (letters_from (suc i) k)) there (letter_in (suc i) k (b - suc i) (omega arith)) in
+      in_left (pairs_with i (suc i) k) (pairs_from (suc i) k) (pair a b)
+      (rw (e, pairs_with_map i (suc i) k) (in_map (λ l. letter i + l) (letters_from (suc i) k) (letter b) p))
+  | inr ne ↦ in_right (pairs_with i (suc i) k) (pairs_from (suc i) k) (pair a b) (pair_in (suc i) k a b (omega (arith, ne)) m (omega arith))
+]
 
-  -- one pair more, the sum of the letters of the list
-  pub pair_more : (rest : List ℕ) (i j : ℕ) → i < j → j < n → (s : Short) (new : List Short) →
-      s.word ≡ code_sum two (get_or ss i d).word (get_or ss j d).word → s.least ≡ code_sum two (get_or ss i d).least (get_or ss j d).least →
-      new ≡ take 528 (ss ++ s ∷ []) → n ≤ length ss → Lists n rows ss (pair i j ∷ rest) → Lists n rows new rest × (n ≤ length new)
-  pair_more rest i j l m s new word least pushed many h =
-      let a = get_or ss i d in
-      let b = get_or ss j d in
-      let ea : a.word ≡ letter i = item_letter (pair i j ∷ rest) h many i (omega arith) in
-      let eb : b.word ≡ letter j = item_letter (pair i j ∷ rest) h many j m in
-      let ha : Word two n a.word = rw ea (letter_is_word n i high (omega arith)) in
-      let hb : Word two n b.word = rw eb (letter_is_word n j high m) in
-      let value : code_sum two a.word b.word ≡ pair i j = sym (sum_code two lawful_two n a.word b.word ha hb) ∙ ap₂ (word_sum two n) ea eb ∙ pair_sum n i j high l m in (
-        list_more n high rows ss new s (code_sum two a.word b.word) (pair i j) rest word value
-            (λ e w.
-            let V = space_at two lawful_two n a.word ha in
-            let la = h.least i d (omega arith) e ha in
-            let lb = h.least j d (omega arith) e hb in
-            subst (λ v. LeastAlias two n rows v s.least) (sum_code two lawful_two n a.word b.word ha hb)
-            (subst (LeastAlias two n rows (word_sum two n a.word b.word))
-            (sum_code two lawful_two n a.least b.least (alias_word two lawful_two n V rows a.word a.least ha la) (alias_word two lawful_two n V rows b.word b.least hb lb) ∙ sym least)
-            (least_sum two lawful_two n rows a.word b.word a.least b.least e ha hb la lb)))
-            pushed h,
-        omega (arith, ap length pushed, length-take 528 (ss ++ s ∷ []), length-append ss (s ∷ [])),
-      )
+-- a letter has no first factor
+factors_one : (k z : ℕ) → In z (letters_from 0 k) → (i : ℕ) × (j : ℕ) × (i < j) × (j ≤ k) × (two_letters i j ≡ z)
+factors_one k z p =
+    let m = letter_of 0 k z p in
+    let a = m.0 in
+    let l = m.1 in
+    let is : letter (0 + a) ≡ z = m.2 in
+    (0, suc a, omega arith, omega arith, omega (arith, pow-suc 2 a, is, ap letter (let s : 0 + a ≡ a = omega arith in s)))
+
+-- a pair has two
+factors_two : (k z : ℕ) → In z (pairs_from 0 k) → (i : ℕ) × (j : ℕ) × (i < j) × (j ≤ k) × (two_letters i j ≡ z)
+factors_two k z p =
+    let m = pair_of 0 k z p in
+    let a = m.0 in
+    let b = m.1 in
+    let l = m.2 in
+    let h = m.3 in
+    let is : pair a b ≡ z = m.4 in
+    (suc a, suc b, omega arith, omega arith, omega (arith, pow-suc 2 a, pow-suc 2 b, is))
+
+-- a code of 64 bits and of length 1 or 2 has two factors, the first of which may be none
+pub length_short : (w : ℕ) → w < 2 ^ 64 → (word_length two w ≡ 1) ⊎ (word_length two w ≡ 2) → Short w
+length_short w l h = elim h [
+  | inl e ↦ let f = factors_one 64 w (are_letters 0 64 w (length_many 1 w l e)) in (f.0, f.1, f.2, f.4)
+  | inr e ↦ let f = factors_two 64 w (are_pairs 0 64 w (length_many 2 w l e)) in (f.0, f.1, f.2, f.4)
+]
+
+-- and no other has
+pub short_length : (w : ℕ) → w < 2 ^ 64 → Short w → (word_length two w ≡ 1) ⊎ (word_length two w ≡ 2)
+short_length w l s =
+    let a = s.0 in
+    let b = s.1 in
+    let ab = s.2 in
+    let is = s.3 in
+    let high : b ≤ 64 = elim (cases_lt 64 b) [ inl lt ↦ absurd (omega (arith, one_twice 64 b lt)) | inr le ↦ le ] in
+    let last = letter_one b (omega arith) in
+    elim (cases_eq a 0) [
+      | inl z ↦
+          let e : letter (0 + (b - 1)) ≡ w = omega (arith, last, ap one_letter z, ap letter (let s : 0 + (b - 1) ≡ b - 1 = omega arith in s)) in
+          inl (many_length 1 w (subst (Letters 1 0 64) e (letters_are 0 64 (letter (0 + (b - 1))) (letter_in 0 64 (b - 1) (omega arith)))))
+      | inr some ↦
+          let low : 1 ≤ a = omega (arith, some) in
+          let e : pair (a - 1) (b - 1) ≡ w = omega (arith, last, letter_one a low) in
+          inr (many_length 2 w (subst (Letters 2 0 64) e (pairs_are 0 64 (pair (a - 1) (b - 1)) (pair_in 0 64 (a - 1) (b - 1) (omega arith) (omega arith) (omega arith)))))
+    ]
+
+module _ (n : ℕ) (high : n ≤ 32) where
+  -- letters are words, and code 0 is one
+  one_word : (i : ℕ) → 1 ≤ n → i ≤ n → Word two n (one_letter i)
+  one_word i low l = below_word n (one_letter i) low high (omega (arith, pow_pos i, grow i n l))
+
+  -- the pair of factors from 1 is that of factors from 0
+  pub pair_two : (i j : ℕ) → 1 ≤ i → i < j → two_letters i j ≡ pair (i - 1) (j - 1)
+  pair_two i j low l = ap₂ (λ a b. a + b) (letter_one i low) (letter_one j (omega arith))
+
+  -- which is a word of two letters
+  pub two_is : (i j : ℕ) → 1 ≤ i → i < j → j ≤ n → Word two n (two_letters i j) × (word_length two (two_letters i j) ≡ 2)
+  two_is i j low l h =
+      subst (λ z. Word two n z × (word_length two z ≡ 2)) (sym (pair_two i j low l)) (pair_word n (pair (i - 1) (j - 1)) high (pair_in 0 n (i - 1) (j - 1) (omega arith) (omega arith) (omega arith)))
+
+  -- with no first factor it is one of one letter
+  one_is : (j : ℕ) → 1 ≤ j → j ≤ n → Word two n (two_letters 0 j) × (word_length two (two_letters 0 j) ≡ 1)
+  one_is j low h =
+      let is : letter (0 + (j - 1)) ≡ two_letters 0 j = omega (arith, letter_one j low, ap letter (let e : 0 + (j - 1) ≡ j - 1 = omega arith in e)) in
+      subst (λ z. Word two n z × (word_length two z ≡ 1)) is (letter_word n (letter (0 + (j - 1))) high (letter_in 0 n (j - 1) (omega arith)))
+
+  -- so these are words of one letter or two
+  pub short_is : (i j : ℕ) → i < j → j ≤ n → Word two n (two_letters i j) × ((word_length two (two_letters i j) ≡ 1) ⊎ (word_length two (two_letters i j) ≡ 2))
+  short_is zero j l h = let w = one_is j (omega arith) h in (w.0, inl w.1)
+  short_is (suc i) j l h = let w = two_is (suc i) j (omega arith) l h in (w.0, inr w.1)
+
+  -- and each such word is one of these
+  pub short_factors : (z : ℕ) → Word two n z → (word_length two z ≡ 1) ⊎ (word_length two z ≡ 2) → (i : ℕ) × (j : ℕ) × (i < j) × (j ≤ n) × (two_letters i j ≡ z)
+  short_factors z w h = elim h [ inl e ↦ factors_one n z (word_letter n z w e) | inr e ↦ factors_two n z (word_pair n z w e) ]
+
+  -- the sum of two letters
+  pub letters_sum : (i j : ℕ) → i < j → j ≤ n → word_sum two n (one_letter i) (one_letter j) ≡ two_letters i j
+  letters_sum i j l h =
+      let a = one_letter i in
+      let low : 1 ≤ j = omega arith in
+      let top : one_letter j ≡ 1 * 2 ^ (j - 1) + 0 = letter_one j low ∙ omega arith in
+      let small : a < 2 ^ (j - 1) = omega (arith, one_less i j l, letter_one j low) in
+      sum_xor n a (one_letter j) (one_word i (omega arith) (omega arith)) (one_word j (omega arith) h)
+      ∙ ap₂ bit_xor (let s : a ≡ 0 * 2 ^ (j - 1) + a = omega arith in s) top
+      ∙ xor_block (j - 1) 0 1 a 0 small (pow_pos (j - 1))
+      ∙ omega (arith, xor_zero_l 1, xor_zero_r a, letter_one j low)
+
+  -- the same whatever the number of factors
+  pub letters_code : (i j : ℕ) → i < j → j ≤ n → code_sum two (one_letter i) (one_letter j) ≡ two_letters i j
+  letters_code i j l h = sym (sum_code two lawful_two n (one_letter i) (one_letter j) (one_word i (omega arith) (omega arith)) (one_word j (omega arith) h)) ∙ letters_sum i j l h
+
+  -- the least alias of such a word is the sum of those of its letters
+  pub least_two : (rows ls : List ℕ) → Echelon two n rows → LeastAliases n rows ls → (i j : ℕ) → i < j → j ≤ n → j < length ls →
+      LeastAlias two n rows (two_letters i j) (code_sum two (get_or ls i 0) (get_or ls j 0))
+  least_two rows ls e least i j l h there =
+      let a = one_letter i in
+      let b = one_letter j in
+      let ha = one_word i (omega arith) (omega arith) in
+      let hb = one_word j (omega arith) h in
+      let la = least i (omega arith) e ha in
+      let lb = least j there e hb in
+      let V = space_at two lawful_two n a ha in
+      subst (λ v. LeastAlias two n rows v (code_sum two (get_or ls i 0) (get_or ls j 0))) (letters_sum i j l h)
+      (subst (LeastAlias two n rows (word_sum two n a b))
+      (sum_code two lawful_two n (get_or ls i 0) (get_or ls j 0) (alias_word two lawful_two n V rows a (get_or ls i 0) ha la) (alias_word two lawful_two n V rows b (get_or ls j 0) hb lb))
+      (least_sum two lawful_two n rows a b (get_or ls i 0) (get_or ls j 0) e ha hb la lb))

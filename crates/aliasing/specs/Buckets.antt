@@ -1,33 +1,45 @@
--- Chains of the words of a list, one for each bucket of least aliases.
-use Rattle.std.specs.Prelude.{◌≡◌, ℕ, ◌-◌, ◌*◌, ◌/◌, ◌%◌, ◌^◌, ◌<◌, ◌≤◌, ◌≢◌, ◌⊎◌, List, length, slice_index, slice_index_or}
-use Rattle.aliasing.specs.declared.clear.Short.{Short}
+-- Chains of words by their places, one for each bucket of least aliases.
+use Rattle.std.specs.Prelude.{◌≡◌, ℕ, ◌-◌, ◌*◌, ◌/◌, ◌%◌, ◌^◌, ◌<◌, ◌≤◌, ◌≢◌, ◌⊎◌, List, length, slice_index}
+use Rattle.aliasing.specs.Short.{Own, Short, Stands, sum_at}
 
 -- the bucket of a least alias
 abbrev pub bucket_of : ℕ → ℕ
 bucket_of r = r * 0x9e37_79b9_7f4a_7c15 % 2 ^ 64 / 2 ^ 54
 
--- the last word of a bucket before a place stands at this place, from 1; 0 where there is none
-pub record LastBefore (ss : List Short) (b top place : ℕ) : Type 0 where
+-- the least alias of the word at a place has not one letter or two
+abbrev pub Long : List ℕ → ℕ → Type 0
+Long ls p = Stands ls p × (Short (sum_at ls p) → ⊥)
+
+-- the last such word of a bucket before a place stands at this place, from 1; 0 where there is none
+pub record LastBefore (ls : List ℕ) (b top place : ℕ) : Type 0 where
   pub within : place ≤ top
-  pub there : 0 < place → (d : Short) → bucket_of (slice_index_or ss (place - 1) d).least ≡ b
-  pub none_between : (i : ℕ) → place ≤ i → i < top → (d : Short) → bucket_of (slice_index_or ss i d).least ≢ b
+  pub long : 0 < place → Long ls (place - 1)
+  pub there : 0 < place → bucket_of (sum_at ls (place - 1)) ≡ b
+  pub none_between : (i : ℕ) → place ≤ i → i < top → Long ls i → bucket_of (sum_at ls i) ≢ b
 
--- to each of the first k words of a list the place of the one before it in its bucket
-abbrev pub Befores : List Short → ℕ → List ℕ → Type 0
-Befores ss k before = (i : ℕ) → i < k → (d : Short) → LastBefore ss (bucket_of (slice_index_or ss i d).least) i (slice_index before i)
+-- The words before place k in chains: to each bucket the place of its last word, and to each word that of the one before it.
+pub record Chained (ls : List ℕ) (k : ℕ) (last before : List ℕ) : Type 0 where
+  pub buckets : length last ≡ 1024
+  pub places : length before ≡ 1024
+  pub lasts : (b : ℕ) → b < 1024 → LastBefore ls b k (slice_index last b)
+  pub befores : (i : ℕ) → i < k → Long ls i → LastBefore ls (bucket_of (sum_at ls i)) i (slice_index before i)
 
--- no word stands at two places of a list
-abbrev pub Different : List Short → Type 0
-Different ss = (i j : ℕ) (d : Short) → i < length ss → j < length ss → (slice_index_or ss i d).word ≡ (slice_index_or ss j d).word → i ≡ j
+-- the word at p is another than that at k with the same least alias, and is before it or its own least alias
+abbrev pub IsOther : List ℕ → ℕ → ℕ → Type 0
+IsOther ls k p = Stands ls p × (p ≢ k) × (sum_at ls p ≡ sum_at ls k) × ((p < k) ⊎ Own ls p)
 
--- none of the first k words of a list other than this has the same least alias
-abbrev pub AloneAmong : ℕ → List Short → Short → Type 0
-AloneAmong k ss p = (i : ℕ) (d : Short) → i < k → (slice_index_or ss i d).least ≡ p.least → (slice_index_or ss i d).word ≡ p.word
+-- there is none, or the word at k is its own least alias, which others find
+abbrev pub NoOther : List ℕ → ℕ → Type 0
+NoOther ls k = Own ls k ⊎ ((p : ℕ) → IsOther ls k p → ⊥)
 
--- a byte tells whether a word is alone among them: 1 if so, else 0
-abbrev pub Tells : ℕ → List Short → Short → ℕ → Type 0
-Tells k ss p byte = ((byte ≡ 1) × AloneAmong k ss p) ⊎ ((byte ≡ 0) × (AloneAmong k ss p → ⊥))
+-- no word other than that at p has the same least alias
+abbrev pub Alone : List ℕ → ℕ → Type 0
+Alone ls p = (i : ℕ) → Stands ls i → sum_at ls i ≡ sum_at ls p → i ≡ p
 
--- bytes tell of the first m words whether they are alone among the first k
-abbrev pub Told : ℕ → ℕ → List Short → List ℕ → Type 0
-Told k m ss bytes = (i : ℕ) → i < m → (d : Short) → Tells k ss (slice_index_or ss i d) (slice_index bytes i)
+-- a byte tells whether a word is alone: 1 if so, else 0
+abbrev pub Tells : List ℕ → ℕ → ℕ → Type 0
+Tells ls p byte = ((byte ≡ 1) × Alone ls p) ⊎ ((byte ≡ 0) × (Alone ls p → ⊥))
+
+-- bytes tell of all words
+abbrev pub Told : List ℕ → List ℕ → Type 0
+Told ls bytes = (p : ℕ) → Stands ls p → Tells ls p (slice_index bytes p)

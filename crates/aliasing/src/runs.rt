@@ -8,11 +8,8 @@ ghost use Rattle.aliasing.specs.Filled.{filled};
 ghost use Rattle.aliasing.specs.Runs.{block_number, is_run, letters_at_one, Run, runs_below, runs_upto};
 ghost use Rattle.aliasing.specs.Table.{all_placed, empty_below, empty_table, odd, placed, Rows};
 
-use levels::{Levels, TwoLevels};
+use levels::{Levels, MOST, TwoLevels};
 use std::array;
-
-// A block number has one binary digit for each of so many words.
-const BLOCK_WORDS: usize = 16;
 
 // The number of a run, or of the place past the last, ends in at most 32 zeros in binary.
 const STEPS: usize = 33;
@@ -59,7 +56,7 @@ pub fn block_number(run: u64, words: &[u64]) -> u32
     ensures { (n : ℕ) → legal two n run ≡ true → AllWords two n words.now → length words.now ≤ 16 → result ≡ block_number n run words.now }
 {
     let mut number = 0;
-    for (i, word) in words.iter().take(BLOCK_WORDS).enumerate() {
+    for (i, word) in words.iter().take(MOST).enumerate() {
         if parity(run, *word) {
             number += 1 << i;
         }

@@ -1,46 +1,64 @@
-use Rattle.std.proofs.Common.{◌≡◌, ℕ, ◌-◌, ◌≤◌, ◌++◌, map, length, take, drop, sym, ap, ◌∙◌, subst, arith}
-use Rattle.std.proofs.lemmas.List.{length-map, length-replicate, take_all}
+use Rattle.std.proofs.Common.{rules, ◌≡◌, ℕ, ◌+◌, ◌-◌, ◌<◌, ◌≤◌, List, map, length, take, sym, ap, ◌∙◌, subst, arith, length-take}
+use Rattle.std.proofs.lemmas.List.{length-replicate, get_or-replicate, get_or-take}
 use Rattle.bounded.specs.Items.{items_of}
 use Rattle.levels.specs.Arithmetic.{two}
+use Rattle.levels.specs.Basis.{Echelon, LeastAlias}
+use Rattle.levels.specs.Space.{Word}
 use Rattle.levels.specs.Rows.{basis_rows}
 use Rattle.levels.specs.Lawful.{lawful_two}
 use Rattle.levels.proofs.Growth.{from_none}
-use Rattle.aliasing.specs.Clear.{pairs, clear_byte}
-use Rattle.aliasing.specs.Short.{short_words, LeastAliases}
-use Rattle.aliasing.proofs.Shorts.{pairs_most, short_length, short_most, short_different}
-use Rattle.aliasing.proofs.Crowds.{told-bytes}
+use Rattle.aliasing.specs.Clear.{clear_byte, pairs_from}
+use Rattle.aliasing.specs.Short.{one_letter, LeastAliases}
+use Rattle.aliasing.proofs.Crowds.{pushed_more, pushed_all, settled}
 use Rattle.aliasing.proofs.clear.push_bytes.Goals as goal
 
--- the letters are among the short words
-pub slice_bounds-extend-count : goal.slice_bounds-extend-count
-slice_bounds-extend-count c =
-    omega (arith, ap length c.as_slice-short.ensures, short_length c.args.n (items_of c.list_short.new.short) c.list_short.ensures.words)
+-- all bytes are 1
+pub mark_others-requires-clause-ones : goal.mark_others-requires-clause-ones
+mark_others-requires-clause-ones c = λ p l. get_or-replicate {A = ℕ} 1024 p 1 0 l
 
-pub slice_bounds-extend-start : goal.slice_bounds-extend-start
-slice_bounds-extend-start c =
-    omega (arith, ap length c.as_slice-short.ensures, short_length c.args.n (items_of c.list_short.new.short) c.list_short.ensures.words)
+-- no pair is pushed yet
+pub loop-i-init : goal.loop-i-init
+loop-i-init c = rw c.requires.empty (ap (λ k. map (clear_byte c.args.n c.args.words.now) (pairs_from 0 k)) (let e : c.args.n - 0 ≡ c.args.n = omega arith in e))
 
--- no word is listed twice
-pub mark_alone-requires-clause-different : goal.mark_alone-requires-clause-different
-mark_alone-requires-clause-different c =
-    short_different c.args.n c.requires.few c.as_slice-short.result.now (ap (map (λ s. s.word)) c.as_slice-short.ensures ∙ c.list_short.ensures.words)
+-- the least aliases of all factors
+whole_list : (n : ℕ) → n ≤ 32 → (rows all : List ℕ) (f : ℕ) → f ≡ n → length all ≡ 33 → LeastAliases n rows all → (length (take (f + 1) all) ≡ n + 1) × LeastAliases n rows (take (f + 1) all)
+whole_list n high rows all f e size least =
+    let long = length-take (f + 1) all in (
+      omega arith,
+      (λ k l.
+          let inside : k < f + 1 = omega arith in
+          subst (λ v. Echelon two n rows → Word two n (one_letter k) → LeastAlias two n rows (one_letter k) v) (sym (get_or-take (f + 1) all k 0 inside)) (least k (omega arith))),
+    )
 
--- the bytes behind those of the letters
-pub returns : goal.returns
-returns c =
+-- a least alias of one letter or two is its own
+pub mark_others-requires-clause-settled : goal.mark_others-requires-clause-settled
+mark_others-requires-clause-settled c =
     let n = c.args.n in
     let ws = c.args.words.now in
-    let ss = c.as_slice-short.result.now in
-    let alone = c.mark_alone.new.alone in
     let rows = basis_rows c.admit_all.new.self in
-    let p = c.admit_all.ensures in
-    let b = from_none two lawful_two n ws rows (rw c.new-basis.ensures at p) in
-    let words : map (λ s. s.word) ss ≡ short_words n = ap (map (λ s. s.word)) c.as_slice-short.ensures ∙ c.list_short.ensures.words in
-    let least = subst (LeastAliases n rows) (sym c.as_slice-short.ensures) c.list_short.ensures.least in
-    let room : length ss ≤ length alone =
-    let size : length alone ≡ 528 = c.mark_alone.auto.alone ∙ length-replicate {A = ℕ} 528 0 in
-    omega (arith, ap length words, length-map ss (λ s. s.word), short_most n c.requires.few) in
-    let told = told-bytes n c.requires.few ws rows b.0 b.1 ss words least alone c.mark_alone.ensures room in
-    c.extend.ensures
-    ∙ ap (take 496) (ap (λ xs. xs ++ take (length ss - c.from.result) (drop c.from.result alone)) c.requires.empty ∙ ap (λ m. take (length ss - m) (drop m alone)) c.from.ensures ∙ told)
-    ∙ take_all 496 (map (clear_byte n ws) (pairs n)) (omega (arith, length-map (pairs n) (clear_byte n ws), pairs_most n c.requires.few))
+    let all = c.least_aliases-least.result in
+    let f = c.from-factors.result in
+    let b = from_none two lawful_two n ws rows (rw c.new-basis.ensures at c.admit_all.ensures) in
+    let h = whole_list n c.requires.few rows all f c.from-factors.ensures (search rules) c.least_aliases-least.ensures in
+    settled n c.requires.few ws rows (take (f + 1) all) b.0 b.1 h.0 h.1
+
+-- one row more
+pub loop-i-preserved : goal.loop-i-preserved
+loop-i-preserved c =
+    let n = c.args.n in
+    let ws = c.args.words.now in
+    let rows = basis_rows c.admit_all.new.self in
+    let all = c.least_aliases-least.result in
+    let alone = c.mark_others.new.alone in
+    let i = c.loop-i.i in
+    let f = c.from-factors.result in
+    let fn = c.from-factors.ensures in
+    let b = from_none two lawful_two n ws rows (rw c.new-basis.ensures at c.admit_all.ensures) in
+    let h = whole_list n c.requires.few rows all f fn (search rules) c.least_aliases-least.ensures in
+    let room : length alone ≡ 1024 = c.mark_others.auto.alone ∙ length-replicate {A = ℕ} 1024 1 in
+    pushed_more n c.requires.few ws rows (take (f + 1) all) b.0 b.1 h.0 h.1 alone room c.mark_others.ensures i c.loop-i.auto.i (omega (arith, c.loop-i-test.true))
+    (items_of c.loop-i.bytes) (items_of c.extend.new.self) (rw fn at c.extend.ensures) c.loop-i.invariant
+
+-- all rows are pushed
+pub returns : goal.returns
+returns c = pushed_all c.args.n c.args.words.now c.loop-i.i (items_of c.loop-i.bytes) (let a = c.from-factors.ensures in let b = c.loop-i-test.false in omega arith) c.loop-i.invariant
