@@ -1,3 +1,4 @@
 pub mod Bases
+pub mod Keeps
 pub mod Membership
 pub mod Outcomes

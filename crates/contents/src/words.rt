@@ -3,9 +3,8 @@ ghost use Rattle.std.specs.Prelude.{◌≡◌, ◌+◌, ◌<◌, ◌≤◌, [], 
 ghost use Rattle.bounded.specs.Items.{items_of};
 
 use bounded::Bounded;
-
 // How many words a plan holds at most, whatever its levels.
-pub const MOST: usize = 16;
+pub use levels::MOST;
 
 #[derive(Clone, Copy)]
 pub struct Words {

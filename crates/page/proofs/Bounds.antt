@@ -21,6 +21,7 @@ use Rattle.choice.specs.Choice.{generators}
 use Rattle.choice.proofs.Greedy.{generators_length}
 use Rattle.contents.specs.declared.side.Side.TheVariants.{Defining, Block}
 use Rattle.contents.specs.Content.{Content, Kept}
+use Rattle.contents.proofs.Membership.{bits_small, limit_small}
 use Rattle.plan.specs.Answers.{defined}
 use Rattle.page.specs.Page.{fields, letter_of, letters, line, page, resolution_fields, shown}
 use Rattle.page.specs.Parts.{clear_line, generators_line, head_line, pattern_line, resolution_line}
@@ -43,13 +44,9 @@ page_length A p =
       length-append one two,
     )
 
--- a digit has at most 2 bits
-pub bits_few : (A : Arithmetic) → Lawful A → A.bits ≤ 2
-bits_few A L = subst (λ (b : ℕ). b ≤ 2) (sym L.width) (cond_both (eqb A.s 2) 1 2 (λ b. b ≤ 2) (λ e. omega arith) (λ e. omega arith))
-
--- so there are at most 4 levels
+-- a digit has at most 2 bits, so there are at most 4 levels
 levels_few : (A : Arithmetic) → Lawful A → A.s ≤ 4
-levels_few A L = le_trans L.fits (pow-le-pow_right {n = 2} (omega arith) (bits_few A L))
+levels_few A L = le_trans L.fits (pow-le-pow_right {n = 2} (omega arith) (bits_small A L))
 
 -- a number of one digit
 digit_short : (d : ℕ) → d < 10 → length (decimal d) ≤ 1
@@ -83,7 +80,7 @@ word_most A k most (suc n) i w =
 -- 64 bytes for up to 32 factors, and 32 of them with two levels
 shown_most : (A : Arithmetic) → Lawful A → (n : ℕ) → n ≤ 32 → (w : ℕ) → length (shown A n w) ≤ 64
 shown_most A L n h w =
-    let four = pow-le-pow_right {n = 2} (omega arith) (bits_few A L) in
+    let four = pow-le-pow_right {n = 2} (omega arith) (bits_small A L) in
     omega (arith, word_most A 2 (λ i d l. mark_two i d (omega arith)) n 0 w)
 
 shown_two : (A : Arithmetic) → Lawful A → A.s ≡ 2 → (n : ℕ) → n ≤ 32 → (w : ℕ) → length (shown A n w) ≤ 32
@@ -145,19 +142,19 @@ head_most a b c d la lb lc ld =
       two_digits d ld,
     )
 
-module _ (A : Arithmetic) (set : List ℕ) (d : ℕ) (some : 1 ≤ d) (short : (j : ℕ) → length (decimal (count A set j)) ≤ d) where
-  -- counts of at most d digits
-  counts_most : (k i : ℕ) → length (fields decimal (counts_from A set i k)) ≤ suc d * k
+module _ (A : Arithmetic) (set : List ℕ) (short : (j : ℕ) → length (decimal (count A set j)) ≤ 5) where
+  -- counts of at most 5 digits
+  counts_most : (k i : ℕ) → length (fields decimal (counts_from A set i k)) ≤ 6 * k
   counts_most zero i = omega arith
   counts_most (suc k) i =
-      omega (arith, field_length decimal (count A set i) (counts_from A set (suc i) k), short i, counts_most k (suc i), mul-suc (suc d) k)
+      omega (arith, field_length decimal (count A set i) (counts_from A set (suc i) k), short i, counts_most k (suc i), mul-suc 6 k)
 
   -- the first of them that is not 0, behind its length
-  first_most : (k i : ℕ) → i + k ≤ 33 → length (resolution_fields (first_positive i (counts_from A set i k))) ≤ 4 + d
+  first_most : (k i : ℕ) → i + k ≤ 33 → length (resolution_fields (first_positive i (counts_from A set i k))) ≤ 9
   first_most zero i h = omega arith
   first_most (suc k) i h =
       let c = count A set i in
-      cond_both (eqb c 0) (first_positive (suc i) (counts_from A set (suc i) k)) (Some (i, c)) (λ o. length (resolution_fields o) ≤ 4 + d)
+      cond_both (eqb c 0) (first_positive (suc i) (counts_from A set (suc i) k)) (Some (i, c)) (λ o. length (resolution_fields o) ≤ 9)
       (λ e. first_most k (suc i) (omega arith))
       (λ e. omega (arith, field_length decimal i (c ∷ []), field_length decimal c [], two_digits i (omega arith), short i))
 
@@ -200,96 +197,82 @@ clear_most A p h =
     ))
     (λ e. omega arith)
 
-module _ (A : Arithmetic) (L : Lawful A) (p : Content) (high : p.factors ≤ 32) (d : ℕ) (some : 1 ≤ d) (short : (j : ℕ) → length (decimal (count A (defined A p) j)) ≤ d) (m : ℕ) (words : (w : ℕ) → length (shown A p.factors w) ≤ m) where
-  -- the line of the resolution
-  resolution_most : length (line (codes "resolution") (resolution_fields (resolution A p.factors (defined A p)))) ≤ 15 + d
-  resolution_most =
-      let fs = resolution_fields (resolution A p.factors (defined A p)) in
-      omega (arith, length_line (codes "resolution") fs, first_most A (defined A p) d some short p.factors 1 (omega arith))
-
-  -- the line of the pattern
-  pattern_most : length (line (codes "pattern") (fields decimal (pattern A p.factors (defined A p)))) ≤ 8 + suc d * 32
-  pattern_most =
-      let fs = fields decimal (pattern A p.factors (defined A p)) in
-      omega (
-        arith,
-        length_line (codes "pattern") fs,
-        counts_most A (defined A p) d some short p.factors 1,
-        mul-le-mul_left (suc d) high,
-      )
-
-  -- the lines of generators
-  generators_most : (label : List ℕ) (good : Relation) (base further : List ℕ) → length (line label (fields (shown A p.factors) (generators A good p.factors base further))) ≤ length label + 1 + suc m * length further
-  generators_most label good base further =
-      let ws = generators A good p.factors base further in
-      omega (
-        arith,
-        length_line label (fields (shown A p.factors) ws),
-        fields_most (shown A p.factors) m words ws,
-        mul-le-mul_left (suc m) (generators_length A L good p.factors base further),
-      )
-
-  -- all lines together
-  page_most : length p.defining + length p.block ≤ 16 → length (page A p) ≤ 58 + d + suc d * 32 + suc m * length p.defining + suc m * length p.block + length (clear_line A p)
-  page_most few =
-      omega (
-        arith,
-        page_length A p,
-        head_most A.s p.factors (length p.defining) (length p.block) (omega (arith, levels_few A L)) (omega arith) (omega arith) (omega arith),
-        resolution_most,
-        pattern_most,
-        generators_most (codes "defining") (shortest A) [] p.defining,
-        generators_most (codes "blocks") (least_aberration A) p.defining p.block,
-      )
-
--- at most 16 words of at most 32 factors: the page fits a sheet
-pub page_fits : (A : Arithmetic) → Lawful A → (p : Content) → p.factors ≤ 32 → length p.defining + length p.block ≤ 16 → length (page A p) ≤ 2048
-page_fits A L p high few =
-    let all : length (defined A p) ≤ 4 ^ 16 = le_trans (generated_most A L p.factors p.defining 16 (omega arith)) (pow-le-pow_left (levels_few A L) 16) in
-    let short : (j : ℕ) → length (decimal (count A (defined A p) j)) ≤ 10 =
-    λ j. length-decimal-le 10 (count A (defined A p) j) (omega arith) (omega (arith, count_most A (defined A p) j)) (omega (arith, count_most A (defined A p) j)) in
-    omega (
-      arith,
-      page_most A L p high 10 (omega arith) short 64 (shown_most A L p.factors high) few,
-      clear_most A p high,
-    )
-
--- with two levels the limit is at most 16, else at most 10
-limit_two : (A : Arithmetic) → Lawful A → A.limit ≤ 16
-limit_two A L = elim (cases_lt 16 A.limit) [
-  | inl h ↦ absurd (omega (arith, L.few, pow-le-pow_left L.field.two_levels A.limit, pow-le-pow_right {n = 2} (omega arith) h))
-  | inr h ↦ h
-]
-
+-- with more than two levels the limit is at most 10
 limit_more : (A : Arithmetic) → Lawful A → 3 ≤ A.s → A.limit ≤ 10
 limit_more A L three = elim (cases_lt 10 A.limit) [
   | inl h ↦ absurd (omega (arith, L.few, pow-le-pow_left three A.limit, pow-le-pow_right {n = 3} (omega arith) h))
   | inr h ↦ h
 ]
 
--- what every plan keeps: its page has at most 1,024 bytes
-pub page_short : (A : Arithmetic) → Lawful A → (p : Content) → Kept A p → length (page A p) ≤ 1024
-page_short A L p kept =
-    let high = kept.high in
-    let limit = limit_two A L in
-    let sum = length-append p.defining p.block in
-    let few : length p.defining + length p.block ≤ A.limit = omega (arith, kept.few) in
-    let all : length (defined A p) ≤ 65536 = le_trans (generated_most A L p.factors p.defining A.limit (omega arith)) L.few in
-    let short : (j : ℕ) → length (decimal (count A (defined A p) j)) ≤ 5 =
-    λ j. length-decimal-le 5 (count A (defined A p) j) (omega arith) (omega (arith, count_most A (defined A p) j)) (omega (arith, count_most A (defined A p) j)) in
-    elim (cases_Bool (eqb A.s 2)) [
-      | inl e ↦
-          omega (
-            arith,
-            page_most A L p high 5 (omega arith) short 32 (shown_two A L (eqb-true A.s 2 e) p.factors high) (omega arith),
-            clear_most A p high,
-          )
-      | inr e ↦
-          let three : 3 ≤ A.s = omega (arith, eqb-false A.s 2 e, L.field.two_levels) in
-          omega (
-            arith,
-            limit_more A L three,
-            page_most A L p high 5 (omega arith) short 64 (shown_most A L p.factors high) (omega arith),
-            ap length (cond-false (eqb A.s 2) (line (codes "clear") (fields decimal (ones_in (clear_bytes p.factors p.defining) ∷ []))) [] e),
-          )
-    ]
+module _ (A : Arithmetic) (L : Lawful A) (p : Content) (kept : Kept A p) where
+  -- both lists are within the limit
+  both_few : length p.defining + length p.block ≤ A.limit
+  both_few = omega (arith, kept.few, length-append p.defining p.block)
+
+  -- a count has at most 5 digits
+  count_short : (j : ℕ) → length (decimal (count A (defined A p) j)) ≤ 5
+  count_short j =
+      let all : length (defined A p) ≤ 65536 = le_trans (generated_most A L p.factors p.defining A.limit (omega (arith, both_few))) L.few in
+      let most = count_most A (defined A p) j in
+      length-decimal-le 5 (count A (defined A p) j) (omega arith) (omega arith) (omega arith)
+
+  -- the line of the resolution
+  resolution_most : length (resolution_line A p) ≤ 20
+  resolution_most =
+      let fs = resolution_fields (resolution A p.factors (defined A p)) in
+      omega (arith, length_line (codes "resolution") fs, first_most A (defined A p) count_short p.factors 1 (omega (arith, kept.high)))
+
+  -- the line of the pattern
+  pattern_most : length (pattern_line A p) ≤ 200
+  pattern_most =
+      let fs = fields decimal (pattern A p.factors (defined A p)) in
+      omega (arith, length_line (codes "pattern") fs, counts_most A (defined A p) count_short p.factors 1, kept.high)
+
+  module _ (m : ℕ) (words : (w : ℕ) → length (shown A p.factors w) ≤ m) where
+    -- the lines of generators
+    generators_most : (label : List ℕ) (good : Relation) (base further : List ℕ) → length (line label (fields (shown A p.factors) (generators A good p.factors base further))) ≤ length label + 1 + suc m * length further
+    generators_most label good base further =
+        let ws = generators A good p.factors base further in
+        omega (
+          arith,
+          length_line label (fields (shown A p.factors) ws),
+          fields_most (shown A p.factors) m words ws,
+          mul-le-mul_left (suc m) (generators_length A L good p.factors base further),
+        )
+
+    -- all lines together
+    page_most : length (page A p) ≤ 255 + suc m * length p.defining + suc m * length p.block + length (clear_line A p)
+    page_most =
+        let few = both_few in
+        let limit = limit_small A L in
+        omega (
+          arith,
+          page_length A p,
+          head_most A.s p.factors (length p.defining) (length p.block) (omega (arith, levels_few A L)) (omega (arith, kept.high)) (omega arith) (omega arith),
+          resolution_most,
+          pattern_most,
+          generators_most (codes "defining") (shortest A) [] p.defining,
+          generators_most (codes "blocks") (least_aberration A) p.defining p.block,
+        )
+
+  -- the page has at most 1,024 bytes
+  pub page_short : length (page A p) ≤ 1024
+  page_short = elim (cases_Bool (eqb A.s 2)) [
+    | inl e ↦
+        omega (
+          arith,
+          both_few,
+          limit_small A L,
+          page_most 32 (shown_two A L (eqb-true A.s 2 e) p.factors kept.high),
+          clear_most A p kept.high,
+        )
+    | inr e ↦
+        let three : 3 ≤ A.s = omega (arith, eqb-false A.s 2 e, L.field.two_levels) in
+        omega (
+          arith,
+          both_few,
+          limit_more A L three,
+          page_most 64 (shown_most A L p.factors kept.high),
+          ap length (cond-false (eqb A.s 2) (line (codes "clear") (fields decimal (ones_in (clear_bytes p.factors p.defining) ∷ []))) [] e),
+        )
+  ]

@@ -23,11 +23,11 @@ pub then_more : (N : ℕ) (all more before now : List ℕ) → before ≡ take N
 then_more N all more before now b n = n ∙ ap (λ zs. take N (zs ++ more)) b ∙ cut_more N all more
 
 -- nothing more leaves a sheet as it is
-pub nothing_more : (sheet : Sheet) (xs : List ℕ) → xs ≡ [] → written sheet ≡ take 2048 (written sheet ++ xs)
+pub nothing_more : (sheet : Sheet) (xs : List ℕ) → xs ≡ [] → written sheet ≡ take 1024 (written sheet ++ xs)
 nothing_more sheet xs e =
-    let whole : take 2048 (written sheet) ≡ written sheet =
-    take_all 2048 (written sheet) (omega (arith, length-take sheet.bytes.len sheet.bytes.places, sheet.bytes.few)) in
-    sym (ap (λ zs. take 2048 (written sheet ++ zs)) e ∙ ap (take 2048) (append-nil (written sheet)) ∙ whole)
+    let whole : take 1024 (written sheet) ≡ written sheet =
+    take_all 1024 (written sheet) (omega (arith, length-take sheet.bytes.len sheet.bytes.places, sheet.bytes.few)) in
+    sym (ap (λ zs. take 1024 (written sheet ++ zs)) e ∙ ap (take 1024) (append-nil (written sheet)) ∙ whole)
 
 module _ (N : ℕ) (show : ℕ → List ℕ) (so_far start : List ℕ) (xs : List ℕ) (i : ℕ) (left : take N (so_far ++ fields show (drop i xs)) ≡ take N (start ++ fields show xs)) where
   -- one field more: a space, and what is shown

@@ -2,7 +2,6 @@
 #![tactic(auto)]
 
 ghost use Rattle.std.specs.Prelude.{◌≡◌, ◌≤◌, length};
-ghost use Rattle.contents.specs.Content.{Kept};
 ghost use Rattle.contents.specs.Memory.{holding, wrote};
 ghost use Rattle.page.specs.Page.{page as page_of};
 
@@ -10,16 +9,17 @@ use contents::{Refusal, store};
 use levels::Levels;
 use plan::SettledPlan;
 use printing::printed;
+pub use sheet::LONGEST;
 
 mod printing;
 mod sheet;
 
-// The trial page is written at the start of the memory that is lent, and its length is answered. The page of a plan
-// that is kept has at most 1,024 bytes.
+// The trial page is written at the start of the memory that is lent, and its length is answered. It has at most 1,024
+// bytes.
 pub fn page<L: Levels>(plan: &SettledPlan<L>, memory: &mut [u8]) -> Result<usize, Refusal>
     ensures stored { memory.new ≡ holding (page_of L.Levels.model plan.now) memory.old }
     ensures count { result ≡ wrote (page_of L.Levels.model plan.now) memory.old }
-    ensures short { Kept L.Levels.model plan.now → length (page_of L.Levels.model plan.now) ≤ 1024 }
+    ensures short { length (page_of L.Levels.model plan.now) ≤ 1024 }
 {
     store(printed::<L>(plan).as_slice(), memory)
 }

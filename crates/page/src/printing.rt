@@ -15,7 +15,7 @@ use preferences::{LeastAberration, Preference, Shortest};
 impl Sheet {
     // Levels, factors and the counts of words.
     fn print_head<L: Levels>(&mut self, factors: u8, defining: u32, block: u32)
-        ensures { written self.new ≡ take 2048 (written self.old ++ line (codes "plan") (fields decimal (L.Levels.model.s ∷ factors ∷ defining ∷ block ∷ []))) }
+        ensures { written self.new ≡ take 1024 (written self.old ++ line (codes "plan") (fields decimal (L.Levels.model.s ∷ factors ∷ defining ∷ block ∷ []))) }
     {
         let levels = u32::from(L::LEVELS);
         self.numbers(b"plan", &[levels, u32::from(factors), defining, block]);
@@ -23,7 +23,7 @@ impl Sheet {
 
     // The resolution and its count, or none.
     fn print_resolution<L: Levels>(&mut self, plan: &SettledPlan<L>)
-        ensures { written self.new ≡ take 2048 (written self.old ++ resolution_line L.Levels.model plan.now) }
+        ensures { written self.new ≡ take 1024 (written self.old ++ resolution_line L.Levels.model plan.now) }
     {
         match plan.resolution() {
             Some((length, count)) => self.numbers(b"resolution", &[length, count]),
@@ -33,7 +33,7 @@ impl Sheet {
 
     // The wordlength pattern.
     fn print_pattern<L: Levels>(&mut self, plan: &SettledPlan<L>)
-        ensures { written self.new ≡ take 2048 (written self.old ++ pattern_line L.Levels.model plan.now) }
+        ensures { written self.new ≡ take 1024 (written self.old ++ pattern_line L.Levels.model plan.now) }
     {
         // The question writes into memory that it is lent.
         let mut counts = [0; aliasing::pattern::LENGTHS];
@@ -49,7 +49,7 @@ impl Sheet {
         side: Side,
         preference: &P,
     )
-        ensures { written self.new ≡ take 2048 (written self.old ++ generators_line L.Levels.model label.now (P.Preference.good preference.now) side plan.now) }
+        ensures { written self.new ≡ take 1024 (written self.old ++ generators_line L.Levels.model label.now (P.Preference.good preference.now) side plan.now) }
     {
         // The question writes into memory that it is lent.
         let mut words = [0; choice::MOST];
@@ -59,7 +59,7 @@ impl Sheet {
 
     // With two levels the number of clear pairs.
     fn print_clear<L: Levels>(&mut self, plan: &SettledPlan<L>)
-        ensures { written self.new ≡ take 2048 (written self.old ++ clear_line L.Levels.model plan.now) }
+        ensures { written self.new ≡ take 1024 (written self.old ++ clear_line L.Levels.model plan.now) }
     {
         // By the number of levels: the page has this line with two levels alone, a rule of the project.
         if L::LEVELS == 2 {
@@ -76,7 +76,7 @@ fn clear_count<L: Levels>(plan: &SettledPlan<L>) -> u32
     clear(plan.factors(), plan.list(Side::Defining)).ones() as u32
 }
 
-// The page of a plan. Its factors and words are so few that it fits a sheet.
+// The page of a plan. A plan is kept, so its page fits a sheet.
 pub(crate) fn printed<L: Levels>(plan: &SettledPlan<L>) -> Sheet
     ensures { written result ≡ page_of L.Levels.model plan.now }
 {

@@ -10,7 +10,7 @@ use levels::Levels;
 use plan::SettledPlan;
 
 // No page is longer.
-const LONGEST: usize = 2048;
+pub const LONGEST: usize = 1024;
 
 // The digit for which its letter stands alone.
 const PLAIN: u8 = 1;
@@ -39,21 +39,21 @@ impl Sheet {
 
     // Bytes at the end.
     pub(crate) fn text(&mut self, bytes: &[u8])
-        ensures { written self.new ≡ take 2048 (written self.old ++ bytes.now) }
+        ensures { written self.new ≡ take 1024 (written self.old ++ bytes.now) }
     {
         self.bytes.extend(bytes);
     }
 
     // One byte at the end.
     fn byte(&mut self, byte: u8)
-        ensures { written self.new ≡ take 2048 (written self.old ++ byte ∷ []) }
+        ensures { written self.new ≡ take 1024 (written self.old ++ byte ∷ []) }
     {
         self.bytes.push(byte);
     }
 
     // A number in base ten.
     fn decimal(&mut self, n: u32)
-        ensures { written self.new ≡ take 2048 (written self.old ++ decimal n) }
+        ensures { written self.new ≡ take 1024 (written self.old ++ decimal n) }
     {
         let mut digits = Buffer::new();
         self.text(digits.format(n).as_bytes());
@@ -61,7 +61,7 @@ impl Sheet {
 
     // A line of a label and numbers.
     pub(crate) fn numbers(&mut self, label: &[u8], numbers: &[u32])
-        ensures { written self.new ≡ take 2048 (written self.old ++ line label.now (fields decimal numbers.now)) }
+        ensures { written self.new ≡ take 1024 (written self.old ++ line label.now (fields decimal numbers.now)) }
     {
         self.text(label);
         for number in numbers {
@@ -74,7 +74,7 @@ impl Sheet {
     // The digit of a factor, from 0: its letter where the digit is not 0, and the digit behind it where that is above 1.
     fn digit(&mut self, i: u8, digit: u8)
         requires { i < 32 }
-        ensures { written self.new ≡ take 2048 (written self.old ++ letters i (digit ∷ [])) }
+        ensures { written self.new ≡ take 1024 (written self.old ++ letters i (digit ∷ [])) }
     {
         if digit != 0 {
             self.byte(letter(i));
@@ -87,7 +87,7 @@ impl Sheet {
     // A word of a plan, digit by digit from factor 1. The number of the factor is needed, since its letter is made of it;
     // a list of the digits is not kept.
     fn word<L: Levels>(&mut self, plan: &SettledPlan<L>, code: u64)
-        ensures { written self.new ≡ take 2048 (written self.old ++ shown L.Levels.model plan.now.factors code) }
+        ensures { written self.new ≡ take 1024 (written self.old ++ shown L.Levels.model plan.now.factors code) }
     {
         let base = 1u64 << L::BITS;
         let mut rest = code;
@@ -101,7 +101,7 @@ impl Sheet {
     // A line of a label and words of a plan. It has the loop of `numbers`: a trait for what stands behind the space, with
     // its two impls, or a closure that writes it into the sheet, with the contract of both, would be longer than the two loops.
     pub(crate) fn words<L: Levels>(&mut self, label: &[u8], plan: &SettledPlan<L>, words: &[u64])
-        ensures { written self.new ≡ take 2048 (written self.old ++ line label.now (fields (shown L.Levels.model plan.now.factors) words.now)) }
+        ensures { written self.new ≡ take 1024 (written self.old ++ line label.now (fields (shown L.Levels.model plan.now.factors) words.now)) }
     {
         self.text(label);
         for word in words {

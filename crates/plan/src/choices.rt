@@ -1,6 +1,7 @@
 // The generators that a settled plan is asked for.
-ghost use Rattle.std.specs.Prelude.{◌≡◌, ◌≤◌, map, length, take, if◌then◌else◌, Ok, Err};
+ghost use Rattle.std.specs.Prelude.{◌≡◌, ◌≤◌, ◌++◌, map, length, if◌then◌else◌, Ok, Err};
 ghost use Rattle.bounded.specs.Items.{items_of};
+ghost use Rattle.levels.specs.Generated.{Independent};
 ghost use Rattle.choice.specs.Choice.{BestGenerators};
 ghost use Rattle.choice.specs.Chosen.{chosen_words};
 ghost use Rattle.contents.specs.declared.refusal.Refusal.TheVariants.{Memory};
@@ -16,7 +17,8 @@ use levels::Levels;
 use preferences::{Preference, Scored};
 
 impl<L: Levels> SettledPlan<L> {
-    // Writes the best generators of a side into memory, and tells how many there are: at most 16.
+    // Writes the best generators of a side into memory, and tells how many there are: as many as the side has words, at
+    // most 16. With the base list they are independent.
     pub fn choose<P: Preference<L>>(
         &self,
         side: Side,
@@ -26,6 +28,8 @@ impl<L: Levels> SettledPlan<L> {
         ensures stored { memory.new ≡ holding (chosen L.Levels.model (P.Preference.good preference.now) side self.now) memory.old }
         ensures count { result ≡ wrote (chosen L.Levels.model (P.Preference.good preference.now) side self.now) memory.old }
         ensures few { length (chosen L.Levels.model (P.Preference.good preference.now) side self.now) ≤ 16 }
+        ensures independent { Independent L.Levels.model self.now.factors (base_of side self.now ++ chosen L.Levels.model (P.Preference.good preference.now) side self.now) }
+        ensures as_many { length (chosen L.Levels.model (P.Preference.good preference.now) side self.now) ≡ length (side_of side self.now) }
         ensures no_rival_is_better { BestGenerators L.Levels.model (P.Preference.good preference.now) self.now.factors (base_of side self.now) (side_of side self.now) (chosen L.Levels.model (P.Preference.good preference.now) side self.now) }
     {
         store(self.generators(side, preference).words(), memory)
@@ -35,6 +39,8 @@ impl<L: Levels> SettledPlan<L> {
     fn generators<P: Preference<L>>(&self, side: Side, preference: &P) -> Chosen
         ensures words { chosen_words result ≡ chosen L.Levels.model (P.Preference.good preference.now) side self.now }
         ensures few { length (chosen L.Levels.model (P.Preference.good preference.now) side self.now) ≤ 16 }
+        ensures independent { Independent L.Levels.model self.now.factors (base_of side self.now ++ chosen L.Levels.model (P.Preference.good preference.now) side self.now) }
+        ensures as_many { length (chosen L.Levels.model (P.Preference.good preference.now) side self.now) ≡ length (side_of side self.now) }
     {
         // The defining side has no base list.
         let base = match side {

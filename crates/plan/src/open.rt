@@ -1,6 +1,6 @@
 // A plan while it is open to changes, and the calls that change it.
 ghost use Rattle.std.specs.Prelude.{◌≡◌, Ok};
-ghost use Rattle.contents.specs.Content.{Acts, admitted, blank, started, struck};
+ghost use Rattle.contents.specs.Content.{Acts, Kept, admitted, blank, started, struck};
 ghost use Rattle.planfile.specs.File.{file_of, read_file};
 
 use crate::settled::SettledPlan;
@@ -14,14 +14,17 @@ pub struct OpenPlan<L: Levels> {
     pub(crate) held: PlanContent,
 }
 
-// A clause sees what the plan holds: its factors and its two lists of words.
+// A clause sees what the plan holds: its factors and its two lists of words. Every plan is kept: its words are within the
+// limit, legal and independent.
 impl<L: Levels> Model for OpenPlan<L> {
-    ghost use Rattle.contents.specs.Content.{Content};
+    ghost use Rattle.contents.specs.Content.{Content, Kept};
     ghost use Rattle.contents.specs.Held.{content_of};
 
     ghost Value = { Content };
 
     ghost view = { λ p. content_of p.held };
+
+    ghost invariant = { λ p. Kept L.Levels.model (content_of p.held) };
 }
 
 impl<L: Levels> OpenPlan<L> {
@@ -67,9 +70,10 @@ impl<L: Levels> OpenPlan<L> {
         Ok(())
     }
 
-    // The plan changes no more.
+    // The plan changes no more. Its words are legal and independent, and no more than the limit.
     pub fn settle(self) -> SettledPlan<L>
-        ensures { result ≡ self }
+        ensures same { result ≡ self }
+        ensures kept { Kept L.Levels.model result }
     {
         SettledPlan {
             levels: PhantomData,

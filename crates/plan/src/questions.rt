@@ -1,9 +1,11 @@
 // What is read off the words of a settled plan.
-ghost use Rattle.std.specs.Prelude.{◌≡◌, ◌≤◌, min, length, drop};
+ghost use Rattle.std.specs.Prelude.{◌≡◌, ℕ, ◌-◌, ◌^◌, ◌≤◌, min, length, drop};
+ghost use Rattle.levels.specs.Arithmetic.{two};
 ghost use Rattle.levels.specs.Generated.{generated};
 ghost use Rattle.aliasing.specs.Clear.{clear_bytes};
 ghost use Rattle.aliasing.specs.Filled.{filled};
 ghost use Rattle.aliasing.specs.Pattern.{pattern, resolution};
+ghost use Rattle.aliasing.specs.Runs.{is_run};
 ghost use Rattle.plan.specs.Answers.{alias_member, block_of, defined, run_of, runs_of, wrote_ones};
 ghost use Rattle.plan.specs.Filled.{aliases_of, fill_count, fill_left};
 ghost use Rattle.contents.specs.Memory.{holding, wrote};
@@ -70,9 +72,12 @@ impl SettledPlan<TwoLevels> {
         Ok(ones)
     }
 
-    // Run m, from 0, in ascending code.
+    // Run m, from 0, in ascending code: a code in which every defining word has an even number of its letters at level 1.
+    // Each defining word halves the number of runs.
     pub fn run(&self, m: u64) -> Result<u64, Refusal>
-        ensures { result ≡ run_of m self.now }
+        ensures value { result ≡ run_of m self.now }
+        ensures runs { (x : ℕ) → is_run self.now.factors (generated two self.now.factors self.now.defining) x ≡ is_run self.now.factors self.now.defining x }
+        ensures total { length (runs_of self.now) ≡ 2 ^ (self.now.factors - length self.now.defining) }
     {
         runs::run(self.factors(), self.list(Side::Defining), m).ok_or(Refusal::Last)
     }

@@ -17,15 +17,17 @@ pub struct SettledPlan<L: Levels> {
     pub(crate) held: PlanContent,
 }
 
-// A clause sees what the plan holds: its factors and its two lists of words. This value carries no fact, so each question
-// promises the range of its own answer.
+// A clause sees what the plan holds: its factors and its two lists of words. Every plan is kept: its words are within the
+// limit, legal and independent. A caller sees the value alone, so `list` and `counts` promise it.
 impl<L: Levels> Model for SettledPlan<L> {
-    ghost use Rattle.contents.specs.Content.{Content};
+    ghost use Rattle.contents.specs.Content.{Content, Kept};
     ghost use Rattle.contents.specs.Held.{content_of};
 
     ghost Value = { Content };
 
     ghost view = { λ p. content_of p.held };
+
+    ghost invariant = { λ p. Kept L.Levels.model (content_of p.held) };
 }
 
 impl<L: Levels> SettledPlan<L> {
@@ -48,19 +50,21 @@ impl<L: Levels> SettledPlan<L> {
         self.held.factors()
     }
 
-    // The words of one list, at most 16.
+    // The words of one list, at most 16. Those of both lists are legal and independent, and no more than the limit.
     pub fn list(&self, side: Side) -> &[u64]
         ensures words { result.now ≡ side_of side self.now }
         ensures few { length result.now ≤ 16 }
+        ensures kept { Kept L.Levels.model self.now }
     {
         self.held.list(side).as_slice()
     }
 
-    // How many words each list has, the defining one first: at most 16 in all.
+    // How many words each list has, the defining one first: at most 16 in all. The plan is kept.
     pub fn counts(&self) -> (usize, usize)
         ensures defining { result.0 ≡ length self.now.defining }
         ensures block { result.1 ≡ length self.now.block }
         ensures few { result.0 + result.1 ≤ 16 }
+        ensures kept { Kept L.Levels.model self.now }
     {
         (
             self.held.list(Side::Defining).len(),
@@ -75,12 +79,12 @@ impl<L: Levels> SettledPlan<L> {
         self.held.word(side, place)
     }
 
-    // The file of the plan is written at the start of the memory that is lent, and its length is answered. A plan that
-    // is kept is read back from its file.
+    // The file of the plan is written at the start of the memory that is lent, and its length is answered. The plan is
+    // read back from its file.
     pub fn write(&self, memory: &mut [u8]) -> Result<usize, Refusal>
         ensures stored { memory.new ≡ holding (file_of L.Levels.model self.now) memory.old }
         ensures count { result ≡ wrote (file_of L.Levels.model self.now) memory.old }
-        ensures again { Kept L.Levels.model self.now → read_file L.Levels.model (file_of L.Levels.model self.now) ≡ Ok self.now }
+        ensures again { read_file L.Levels.model (file_of L.Levels.model self.now) ≡ Ok self.now }
     {
         store(planfile::file::<L>(&self.held).as_slice(), memory)
     }

@@ -1,4 +1,3 @@
 pub mod Coding
 pub mod Files
-pub mod Keeps
 pub mod Roundtrip

@@ -1,11 +1,11 @@
--- A plan that is kept is read back from its file, and a file that was read is the file of what was read.
+-- A plan that is kept is read back from its file, and a file that was read is the file of what was read, which is kept.
 use Rattle.std.proofs.Common.{◌≡◌, ℕ, zero, suc, ◌+◌, ◌*◌, ◌^◌, ◌<◌, ◌≤◌, true, cond, ltb, List, [], ◌∷◌, ◌++◌, length, get_or, take, drop, Ok, Err, Result, sym, refl, ap, ◌∙◌, subst, arith}
 use Rattle.std.proofs.lemmas.List.{append-nil, append_assoc, take_at, take_all, drop_at, get_or_at, get_or-take, get_or-drop, length-append, length-drop, length-take-le}
 use Rattle.std.proofs.lemmas.Bool.{cond-true, cond-false, lt-ltb}
 use Rattle.levels.specs.Arithmetic.{Arithmetic, Lawful}
 use Rattle.levels.specs.Words.{legal}
-use Rattle.levels.specs.Space.{Word, AllWords}
-use Rattle.levels.specs.Generated.{Generates, Independent, generated, holds}
+use Rattle.levels.specs.Space.{Word}
+use Rattle.levels.specs.Generated.{Generates, generated, holds}
 use Rattle.levels.proofs.Generation.{independent_before, independent_left}
 use Rattle.levels.proofs.Space.{vector_space}
 use Rattle.contents.specs.declared.refusal.Refusal.{Refusal}
@@ -16,17 +16,25 @@ use Rattle.contents.specs.Content.{Content, Kept, blank, both, side_of, with_sid
 use Rattle.planfile.specs.File.{number, bytes, words_in, word_bytes, file_of, read_words, read_file}
 use Rattle.planfile.proofs.Coding.{bytes_number, length_words_in, length_word_bytes, take_parts, words_back}
 use Rattle.planfile.proofs.Files.{read_ok, read_yes, read_words_ok, nine, version_bytes}
-use Rattle.planfile.proofs.Keeps.{each_left, each_right}
+use Rattle.contents.proofs.Keeps.{Sound, sound, each_left, each_right, blank_kept, admitted_all_kept}
 use Rattle.contents.proofs.Membership.{not_held, word_fits}
 use Rattle.contents.proofs.Outcomes.{same_ok, admitted_ok, admitted_all_ok, all_onward}
 
--- words that a plan of n factors may hold
-record Sound (A : Arithmetic) (n : ℕ) (ws : List ℕ) : Type 0 where
-  pub low : 1 ≤ n
-  pub high : n ≤ 32
-  pub few : length ws ≤ A.limit
-  pub words : AllWords A n ws
-  pub independent : Independent A n ws
+-- another list on one side leaves the factors
+side_factors : (side : Side) (ws : List ℕ) (p : Content) → (with_side side ws p).factors ≡ p.factors
+side_factors Defining ws p = refl
+side_factors Block ws p = refl
+
+-- no word more on one side
+side_kept : (side : Side) (p : Content) → with_side side (side_of side p ++ []) p ≡ p
+side_kept Defining p = ap (λ us. with_side Defining us p) (append-nil p.defining)
+side_kept Block p = ap (λ us. with_side Block us p) (append-nil p.block)
+
+-- one word more, and then others
+side_again : (side : Side) (w : ℕ) (ws : List ℕ) (p : Content) →
+    let q = with_side side (side_of side p ++ w ∷ []) p in with_side side (side_of side q ++ ws) q ≡ with_side side (side_of side p ++ w ∷ ws) p
+side_again Defining w ws p = ap (λ us. with_side Defining us p) (append_assoc p.defining (w ∷ []) ws)
+side_again Block w ws p = ap (λ us. with_side Block us p) (append_assoc p.block (w ∷ []) ws)
 
 -- a content by its parts
 abbrev of : ℕ → List ℕ → List ℕ → Content
@@ -52,32 +60,18 @@ module _ (A : Arithmetic) (L : Lawful A) where
       ∙ cond-false known (Err Generated) full (not_held A L n (both p) w before)
       ∙ cond-true (ltb i A.limit) more (Err Limit) (lt-ltb i A.limit (omega (arith, s.few)))
 
-  -- sound words are admitted one after the other, to the defining list
-  all_defining : (n : ℕ) (ws us : List ℕ) → Sound A n (us ++ ws) → admitted_all A Defining ws (of n us []) ≡ Ok (of n (us ++ ws) [])
-  all_defining n [] us s = ap (λ zs. Ok (of n zs [])) (sym (append-nil us))
-  all_defining n (w ∷ ws) us s =
-      let joined : (us ++ w ∷ []) ++ ws ≡ us ++ w ∷ ws = append_assoc us (w ∷ []) ws in
-      let first : admitted A Defining w (of n us []) ≡ Ok (of n (us ++ w ∷ []) []) =
-      next_admitted Defining w (of n us []) ws (subst (λ zs. Sound A n (zs ++ w ∷ ws)) (sym (append-nil us)) s) in
-      all_onward A Defining w ws (of n us []) (of n (us ++ w ∷ []) []) first
-      ∙ all_defining n ws (us ++ w ∷ []) (subst (Sound A n) (sym joined) s) ∙ ap (λ zs. Ok (of n zs [])) joined
+  -- sound words are admitted to one list, one after the other, where no others stand behind it
+  all_admitted : (side : Side) (ws : List ℕ) (p : Content) → ((us : List ℕ) → both (with_side side (side_of side p ++ us) p) ≡ both p ++ us) → Sound A p.factors (both p ++ ws)
+      → admitted_all A side ws p ≡ Ok (with_side side (side_of side p ++ ws) p)
+  all_admitted side [] p behind s = ap Ok (sym (side_kept side p))
+  all_admitted side (w ∷ ws) p behind s =
+      let q = with_side side (side_of side p ++ w ∷ []) p in
+      let whole : (us : List ℕ) → both q ++ us ≡ both p ++ w ∷ us = λ us. ap (λ zs. zs ++ us) (behind (w ∷ [])) ∙ append_assoc (both p) (w ∷ []) us in
+      let behind' : (us : List ℕ) → both (with_side side (side_of side q ++ us) q) ≡ both q ++ us = λ us. ap both (side_again side w us p) ∙ behind (w ∷ us) ∙ sym (whole us) in
+      let s' : Sound A q.factors (both q ++ ws) = subst (λ n. Sound A n (both q ++ ws)) (sym (side_factors side (side_of side p ++ w ∷ []) p)) (subst (Sound A p.factors) (sym (whole ws)) s) in
+      all_onward A side w ws p q (next_admitted side w p ws s) ∙ all_admitted side ws q behind' s' ∙ ap Ok (side_again side w ws p)
 
-  -- and to the block list
-  all_block : (n : ℕ) (ds ws us : List ℕ) → Sound A n ((ds ++ us) ++ ws) → admitted_all A Block ws (of n ds us) ≡ Ok (of n ds (us ++ ws))
-  all_block n ds [] us s = ap (λ zs. Ok (of n ds zs)) (sym (append-nil us))
-  all_block n ds (w ∷ ws) us s =
-      let joined : (us ++ w ∷ []) ++ ws ≡ us ++ w ∷ ws = append_assoc us (w ∷ []) ws in
-      let all : (ds ++ (us ++ w ∷ [])) ++ ws ≡ (ds ++ us) ++ w ∷ ws =
-      ap (λ zs. zs ++ ws) (sym (append_assoc ds us (w ∷ []))) ∙ append_assoc (ds ++ us) (w ∷ []) ws in
-      let first : admitted A Block w (of n ds us) ≡ Ok (of n ds (us ++ w ∷ [])) = next_admitted Block w (of n ds us) ws s in
-      all_onward A Block w ws (of n ds us) (of n ds (us ++ w ∷ [])) first
-      ∙ all_block n ds ws (us ++ w ∷ []) (subst (Sound A n) (sym all) s) ∙ ap (λ zs. Ok (of n ds zs)) joined
-
-  -- the words of a plan are sound
-  sound : (p : Content) → Kept A p → Sound A p.factors (both p)
-  sound p k = record { low = k.low; high = k.high; few = k.few; words = k.words; independent = k.independent }
-
-  -- and so are those of its defining list
+  -- of sound words in two lists, those of the first are sound
   sound_left : (n : ℕ) (ds bs : List ℕ) → Sound A n (ds ++ bs) → Sound A n ds
   sound_left n ds bs s = record {
     low = s.low;
@@ -93,7 +87,7 @@ module _ (A : Arithmetic) (L : Lawful A) where
       let n = p.factors in
       let ds = p.defining in
       let bs = p.block in
-      let s = sound p k in
+      let s = sound A p k in
       let fits-d : (i : ℕ) → i < length ds → get_or ds i 0 < 2 ^ 64 = λ i l. word_fits A L n (get_or ds i 0) (each_left (Word A n) ds bs s.words i l) in
       let fits-b : (i : ℕ) → i < length bs → get_or bs i 0 < 2 ^ 64 = λ i l. word_fits A L n (get_or bs i 0) (each_right (Word A n) ds bs s.words i l) in
       let rest : List ℕ = word_bytes ds ++ word_bytes bs in
@@ -102,10 +96,10 @@ module _ (A : Arithmetic) (L : Lawful A) where
       ap (words_in (length bs)) (drop_at (word_bytes ds) (word_bytes bs) (8 * length ds) (length_word_bytes ds) ∙ sym (append-nil (word_bytes bs)))
       ∙ words_back bs [] fits-b in
       let first : admitted_all A Defining (words_in (length ds) rest) (blank n) ≡ Ok (of n ds []) =
-      ap (λ ws. admitted_all A Defining ws (blank n)) read-d ∙ all_defining n ds [] (sound_left n ds bs s) in
+      ap (λ ws. admitted_all A Defining ws (blank n)) read-d ∙ all_admitted Defining ds (blank n) append-nil (sound_left n ds bs s) in
       let second : admitted_all A Block (words_in (length bs) (drop (8 * length ds) rest)) (of n ds []) ≡ Ok (of n ds bs) =
       ap (λ ws. admitted_all A Block ws (of n ds [])) read-b
-      ∙ all_block n ds bs [] (subst (λ zs. Sound A n (zs ++ bs)) (sym (append-nil ds)) s) in
+      ∙ all_admitted Block bs (of n ds []) (λ us. ap (λ zs. zs ++ us) (sym (append-nil ds))) (subst (λ zs. Sound A n (zs ++ bs)) (sym (append-nil ds)) s) in
       ap (λ (m : Result Content Refusal).
       let out : Result Content Refusal = elim m [ Ok q ↦ admitted_all A Block (words_in (length bs) (drop (8 * length ds) rest)) q | Err e ↦ Err e ] in out) first
       ∙ second
@@ -122,23 +116,22 @@ module _ (A : Arithmetic) (L : Lawful A) where
         words = words_read p k;
       }
 
--- words that were admitted to the defining list stand behind those before them
-added_defining : (A : Arithmetic) (ws : List ℕ) (p q : Content) → admitted_all A Defining ws p ≡ Ok q → q ≡ with_side Defining (p.defining ++ ws) p
-added_defining A [] p q h = sym (same_ok p q h) ∙ ap (λ zs. with_side Defining zs p) (sym (append-nil p.defining))
-added_defining A (w ∷ ws) p q h =
-    let r = admitted_all_ok A Defining w ws p q h in
-    let e = (admitted_ok A Defining w p r.0 r.1).result in
-    added_defining A ws r.0 q r.2 ∙ ap (λ v. with_side Defining (v.defining ++ ws) v) e
-    ∙ ap (λ zs. with_side Defining zs p) (append_assoc p.defining (w ∷ []) ws)
+  -- a file that was read holds a plan that is kept
+  pub read_file_kept : (f : List ℕ) (p : Content) → read_file A f ≡ Ok p → Kept A p
+  read_file_kept f p h =
+      let r = read_ok A f p h in
+      let n = get_or f 6 0 in
+      let w = read_words_ok A n (get_or f 7 0) (get_or f 8 0) (drop 9 f) p r.words in
+      let first : Kept A w.0 = admitted_all_kept A L Defining (words_in (get_or f 7 0) (drop 9 f)) (blank n) w.0 (blank_kept A n r.size.low r.size.high) w.1 in
+      admitted_all_kept A L Block (words_in (get_or f 8 0) (drop (8 * get_or f 7 0) (drop 9 f))) w.0 p first w.2
 
--- and to the block list
-added_block : (A : Arithmetic) (ws : List ℕ) (p q : Content) → admitted_all A Block ws p ≡ Ok q → q ≡ with_side Block (p.block ++ ws) p
-added_block A [] p q h = sym (same_ok p q h) ∙ ap (λ zs. with_side Block zs p) (sym (append-nil p.block))
-added_block A (w ∷ ws) p q h =
-    let r = admitted_all_ok A Block w ws p q h in
-    let e = (admitted_ok A Block w p r.0 r.1).result in
-    added_block A ws r.0 q r.2 ∙ ap (λ v. with_side Block (v.block ++ ws) v) e
-    ∙ ap (λ zs. with_side Block zs p) (append_assoc p.block (w ∷ []) ws)
+-- words that were admitted to one list stand behind those before them
+added : (A : Arithmetic) (side : Side) (ws : List ℕ) (p q : Content) → admitted_all A side ws p ≡ Ok q → q ≡ with_side side (side_of side p ++ ws) p
+added A side [] p q h = sym (same_ok p q h) ∙ sym (side_kept side p)
+added A side (w ∷ ws) p q h =
+    let r = admitted_all_ok A side w ws p q h in
+    let e = (admitted_ok A side w p r.0 r.1).result in
+    added A side ws r.0 q r.2 ∙ ap (λ v. with_side side (side_of side v ++ ws) v) e ∙ side_again side w ws p
 
 -- what words were read from is their bytes
 bytes_back : (k : ℕ) (bs : List ℕ) → 8 * k ≤ length bs → ((i : ℕ) → get_or bs i 0 < 256) → word_bytes (words_in k bs) ≡ take (8 * k) bs
@@ -167,7 +160,7 @@ read_back A f p fits h =
     let ds : List ℕ = words_in d rest in
     let bs : List ℕ = words_in b (drop (8 * d) rest) in
     let made : p ≡ of n ds bs =
-    added_block A bs w.0 p w.2 ∙ ap (λ v. with_side Block (v.block ++ bs) v) (added_defining A ds (blank n) w.0 w.1) in
+    added A Block bs w.0 p w.2 ∙ ap (λ v. with_side Block (v.block ++ bs) v) (added A Defining ds (blank n) w.0 w.1) in
     let long : length rest ≡ 8 * d + 8 * b = omega (arith, length-drop 9 f, r.size.exact) in
     let small : (i : ℕ) → get_or rest i 0 < 256 = λ i. subst (λ v. v < 256) (sym (get_or-drop 9 f i 0)) (fits (9 + i)) in
     let bytes-d : word_bytes ds ≡ take (8 * d) rest = bytes_back d rest (omega arith) small in

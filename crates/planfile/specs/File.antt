@@ -41,24 +41,25 @@ abbrev pub read_words : Arithmetic → ℕ → ℕ → ℕ → List ℕ → Resu
 read_words A n d b bs =
     elim (admitted_all A Defining (words_in d bs) (blank n)) [ Ok p ↦ admitted_all A Block (words_in b (drop (8 * d) bs)) p | Err e ↦ Err e ]
 
+-- the checks of the head of a file, and what follows them: it is there, with the mark, version 1 and the levels
+abbrev pub past_head : {X : Type 0} → Arithmetic → List ℕ → Result X Refusal → Result X Refusal
+past_head A f next =
+    cond (nat_lt (length f) 9) (Err Cut)
+    (cond (slice_index f 0 == 68 && (slice_index f 1 == 87 && slice_index f 2 == 70))
+    (cond (number (take 2 (drop 3 f)) == 1) (cond (slice_index f 5 == A.s) next (Err Levels)) (Err Version))
+    (Err Mark))
+
+-- the checks of a number of words, and what follows them: the limit, and the length of the file that follows from it
+abbrev pub past_size : {X : Type 0} → Arithmetic → ℕ → ℕ → Result X Refusal → Result X Refusal
+past_size A words len next =
+    let end = 9 + 8 * words in
+    cond (nat_le words A.limit) (cond (nat_lt len end) (Err Cut) (cond (nat_lt end len) (Err Surplus) next)) (Err Limit)
+
 -- the plan that a file holds, or the first check that fails
 abbrev pub read_file : Arithmetic → List ℕ → Result Content Refusal
 read_file A f =
     let n = slice_index_or f 6 0 in
     let d = slice_index_or f 7 0 in
     let b = slice_index_or f 8 0 in
-    let end = 9 + 8 * (d + b) in
-    cond (nat_lt (length f) 9) (Err Cut)
-    (cond (slice_index f 0 == 68 && (slice_index f 1 == 87 && slice_index f 2 == 70))
-    (cond (number (take 2 (drop 3 f)) == 1)
-    (cond (slice_index f 5 == A.s)
-    (cond (nat_le 1 n && nat_le n 32)
-    (cond (nat_le (d + b) A.limit)
-    (cond (nat_lt (length f) end) (Err Cut)
-    (cond (nat_lt end (length f)) (Err Surplus)
-    (read_words A n d b (drop 9 f))))
-    (Err Limit))
-    (Err Factors))
-    (Err Levels))
-    (Err Version))
-    (Err Mark))
+    past_head A f
+    (cond (nat_le 1 n && nat_le n 32) (past_size A (d + b) (length f) (read_words A n d b (drop 9 f))) (Err Factors))

@@ -4,7 +4,7 @@ use bounded::Bounded;
 use contents::words::MOST;
 
 // The longest plan file: its head, and 8 bytes for each of 16 words.
-const LONGEST: usize = HEAD + 8 * MOST;
+pub const LONGEST: usize = HEAD + 8 * MOST;
 
 #[derive(Clone, Copy)]
 pub struct Buffer {
@@ -34,7 +34,7 @@ impl Buffer {
 
     // More bytes at the end. It asks for room, and cuts nothing: whoever writes a file knows how long it gets at most.
     pub(crate) fn extend(&mut self, more: &[u8])
-        requires { length (written self.old) + length more.now ≤ 137 }
+        requires { length (written self.old) + length more.now ≤ LONGEST }
         ensures { written self.new ≡ written self.old ++ more.now }
     {
         self.bytes.extend(more);
@@ -42,7 +42,7 @@ impl Buffer {
 
     // Words at the end, in 8 bytes each.
     pub(crate) fn extend_words(&mut self, words: &[u64])
-        requires { length (written self.old) + 8 * length words.now ≤ 137 }
+        requires { length (written self.old) + 8 * length words.now ≤ LONGEST }
         ensures { written self.new ≡ written self.old ++ word_bytes words.now }
     {
         for word in words {

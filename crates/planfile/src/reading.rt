@@ -19,11 +19,12 @@ struct Head {
 
 impl Head {
     ghost use Rattle.std.specs.Prelude.{◌≡◌, ◌+◌};
-    ghost use Rattle.planfile.specs.Head.{head_read, size_checked};
+    ghost use Rattle.planfile.specs.File.{past_head, past_size};
+    ghost use Rattle.planfile.specs.Head.{head_of};
 
     // The head of a file: it is there, with the mark, version 1 and the levels.
     fn read<L: Levels>(file: &[u8]) -> Result<Head, Refusal>
-        ensures { result ≡ head_read L.Levels.model file.now }
+        ensures { result ≡ past_head L.Levels.model file.now (Ok (head_of file.now)) }
     {
         let [d, w, f, low, high, levels, factors, defining, block, ..] = *file else {
             return Err(Refusal::Cut);
@@ -46,7 +47,7 @@ impl Head {
 
     // The words are no more than the limit, and the file has the length that follows from their number.
     fn check_size<L: Levels>(&self, len: usize) -> Result<(), Refusal>
-        ensures { result ≡ size_checked L.Levels.model (self.now.defining + self.now.block) len }
+        ensures { result ≡ past_size L.Levels.model (self.now.defining + self.now.block) len (Ok tt) }
     {
         let words = usize::from(self.defining) + usize::from(self.block);
         if words > L::LIMIT {

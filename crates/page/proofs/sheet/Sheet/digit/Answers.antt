@@ -12,7 +12,7 @@ returns-then-digit-ne-PLAIN c =
     let d = c.args.digit in
     let start = written c.args.self.now in
     rw (c.decimal.ensures, c.from.ensures, c.byte.ensures, c.letter.ensures, mark_above i d c.if-digit-ne0.true c.if-digit-ne-PLAIN.true)
-    (cut_more 2048 (start ++ letter_of i ∷ []) (decimal d) ∙ ap (take 2048) (append_assoc start (letter_of i ∷ []) (decimal d)))
+    (cut_more 1024 (start ++ letter_of i ∷ []) (decimal d) ∙ ap (take 1024) (append_assoc start (letter_of i ∷ []) (decimal d)))
 
 pub returns-else-digit-ne0 : goal.returns-else-digit-ne0
 returns-else-digit-ne0 c = nothing_more c.args.self.now (letters c.args.i (c.args.digit ∷ [])) (ap (λ d. letters c.args.i (d ∷ [])) c.if-digit-ne0.false)

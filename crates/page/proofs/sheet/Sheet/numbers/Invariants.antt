@@ -6,4 +6,4 @@ use Rattle.page.proofs.sheet.Sheet.numbers.Given as goal
 
 abbrev pub invariant-loop-number : goal.invariant-loop-number
 invariant-loop-number l =
-    take 2048 (written l.self ++ fields decimal (drop l.number-index l.numbers)) ≡ take 2048 (written l.initial.self ++ fields decimal l.numbers)
+    take 1024 (written l.self ++ fields decimal (drop l.number-index l.numbers)) ≡ take 1024 (written l.initial.self ++ fields decimal l.numbers)

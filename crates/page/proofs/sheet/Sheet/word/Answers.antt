@@ -2,16 +2,16 @@
 use Rattle.std.proofs.Common.{◌≡◌, ℕ, ◌+◌, ◌-◌, ◌*◌, ◌/◌, ◌%◌, ◌^◌, [], ◌∷◌, ◌++◌, take, ap, ◌∙◌, arith}
 use Rattle.std.proofs.lemmas.Nat.{one_shl}
 use Rattle.levels.specs.Words.{digits}
+use Rattle.contents.proofs.Membership.{bits_small}
 use Rattle.page.specs.Page.{letters, shown}
 use Rattle.page.specs.Written.{written}
-use Rattle.page.proofs.Bounds.{bits_few}
 use Rattle.page.proofs.Lines.{digit_more, nothing_more}
 use Rattle.page.proofs.sheet.Sheet.word.Given as given
 use Rattle.page.proofs.sheet.Sheet.word.Goals as goal
 
 -- a digit is below 2 to the power of its bits
 base_is : (g : given.Over) (b : ℕ) → b ≡ g.L.Levels.model.bits → (1 * 2 ^ b) % 2 ^ 64 ≡ 2 ^ g.L.Levels.model.bits
-base_is g b e = one_shl b 64 (omega (arith, e, bits_few g.L.Levels.model g.met.L.Levels.lawful)) ∙ ap (λ k. 2 ^ k) e
+base_is g b e = one_shl b 64 (omega (arith, e, bits_small g.L.Levels.model g.met.L.Levels.lawful)) ∙ ap (λ k. 2 ^ k) e
 
 pub loop-i-preserved : goal.loop-i-preserved
 loop-i-preserved g c =
@@ -21,9 +21,9 @@ loop-i-preserved g c =
     let rest = c.loop-i.rest in
     let next = written c.digit.new.self in
     let base = base_is g c.BITS.result (c.BITS.ensures ∙ g.met.L.Levels.bits) in
-    ap (λ b. take 2048 (next ++ letters (i + 1) (digits A (n - (i + 1)) (rest / b)))) base
-    ∙ digit_more 2048 A n i rest (written c.loop-i.self) (take 2048 (written c.args.self.now ++ shown A n c.args.code)) c.loop-i.invariant (omega (arith, c.loop-i-test.true, c.factors-i-end.ensures.value)) next
-    (c.digit.ensures ∙ ap (λ b. take 2048 (written c.loop-i.self ++ letters i (rest % b ∷ []))) base)
+    ap (λ b. take 1024 (next ++ letters (i + 1) (digits A (n - (i + 1)) (rest / b)))) base
+    ∙ digit_more 1024 A n i rest (written c.loop-i.self) (take 1024 (written c.args.self.now ++ shown A n c.args.code)) c.loop-i.invariant (omega (arith, c.loop-i-test.true, c.factors-i-end.ensures.value)) next
+    (c.digit.ensures ∙ ap (λ b. take 1024 (written c.loop-i.self ++ letters i (rest % b ∷ []))) base)
 
 pub returns : goal.returns
 returns g c =

@@ -7,5 +7,5 @@ use Rattle.page.proofs.sheet.Sheet.word.Given as goal
 
 abbrev pub invariant-loop-i : goal.invariant-loop-i
 invariant-loop-i g l =
-    take 2048 (written l.self ++ letters l.i (digits g.L.Levels.model (l.plan.factors - l.i) l.rest))
-    ≡ take 2048 (written l.initial.self ++ shown g.L.Levels.model l.plan.factors l.code)
+    take 1024 (written l.self ++ letters l.i (digits g.L.Levels.model (l.plan.factors - l.i) l.rest))
+    ≡ take 1024 (written l.initial.self ++ shown g.L.Levels.model l.plan.factors l.code)

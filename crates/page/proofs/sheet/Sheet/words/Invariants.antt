@@ -6,5 +6,5 @@ use Rattle.page.proofs.sheet.Sheet.words.Given as goal
 
 abbrev pub invariant-loop-word : goal.invariant-loop-word
 invariant-loop-word g l =
-    take 2048 (written l.self ++ fields (shown g.L.Levels.model l.plan.factors) (drop l.word-index l.words))
-    ≡ take 2048 (written l.initial.self ++ fields (shown g.L.Levels.model l.plan.factors) l.words)
+    take 1024 (written l.self ++ fields (shown g.L.Levels.model l.plan.factors) (drop l.word-index l.words))
+    ≡ take 1024 (written l.initial.self ++ fields (shown g.L.Levels.model l.plan.factors) l.words)

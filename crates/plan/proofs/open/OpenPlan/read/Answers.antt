@@ -1,10 +1,15 @@
--- What was read takes the place of what was held.
+-- What was read takes the place of what was held, and is kept.
 use Rattle.std.proofs.Common.{◌≡◌, Ok, sym, refl, ap, ◌∙◌, subst, arith}
 use Rattle.contents.specs.Content.{Acts}
 use Rattle.planfile.specs.File.{read_file}
 use Rattle.contents.specs.Held.{content_of, result_of}
-use Rattle.planfile.proofs.Roundtrip.{read_back}
+use Rattle.planfile.proofs.Roundtrip.{read_back, read_file_kept}
 use Rattle.plan.proofs.open.OpenPlan.read.Goals as goal
+
+pub invariant_of-self : goal.invariant_of-self
+invariant_of-self g c =
+    read_file_kept g.L.Levels.model g.met.L.Levels.lawful c.args.file.now (content_of c.in_ok-self-inside.field-0)
+    (sym c.read.ensures ∙ ap result_of c.in_ok-self-inside.was)
 
 pub returns : goal.returns
 returns g c =

@@ -1,9 +1,9 @@
--- The choice over the lists of a side cuts nothing off.
+-- The choice over the lists of a side cuts nothing off. The words of the plan are independent, so its generators are.
 use Rattle.std.proofs.Common.{◌≡◌, ◌≤◌, length, sym, ap, ◌∙◌, arith}
 use Rattle.contents.specs.declared.side.Side.{Side}
 use Rattle.contents.specs.Content.{side_of}
 use Rattle.plan.specs.Answers.{base_of}
-use Rattle.plan.proofs.Choosing.{chosen_few, chosen_whole}
+use Rattle.plan.proofs.Choosing.{chosen_few, chosen_whole, side_as_many, side_independent}
 use Rattle.plan.proofs.settled.SettledPlan.generators.Goals.{in-Defining, in-Block}
 use Rattle.plan.proofs.settled.SettledPlan.generators.Goals as goal
 
@@ -22,4 +22,6 @@ returns g c =
     record {
       words = rw (c.choose.ensures.exact, base, c.list.ensures.words, c.factors.ensures.value) (chosen_whole A g.met.L.Levels.lawful good side p few);
       few = chosen_few A g.met.L.Levels.lawful good side p few;
+      independent = side_independent A g.met.L.Levels.lawful good (g.met.P.Preference.lawful c.args.preference.now) side p c.list.ensures.kept;
+      as_many = side_as_many A g.met.L.Levels.lawful good (g.met.P.Preference.lawful c.args.preference.now) side p c.list.ensures.kept;
     }

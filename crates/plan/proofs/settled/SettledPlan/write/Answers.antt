@@ -1,7 +1,8 @@
 -- The file is stored, and is read back.
-use Rattle.std.proofs.Common.{ap, ◌∙◌}
+use Rattle.std.proofs.Common.{◌≡◌, Ok, ap, ◌∙◌, subst}
 use Rattle.contents.specs.Memory.{holding, wrote}
-use Rattle.planfile.specs.File.{file_of}
+use Rattle.contents.specs.Held.{content_of}
+use Rattle.planfile.specs.File.{file_of, read_file}
 use Rattle.planfile.proofs.Roundtrip.{file_back}
 use Rattle.plan.proofs.settled.SettledPlan.write.Goals as goal
 
@@ -12,5 +13,5 @@ returns g c =
     record {
       stored = c.store.ensures.stored ∙ ap (λ f. holding f c.args.memory.now) file;
       count = c.store.ensures.count ∙ ap (λ f. wrote f c.args.memory.now) file;
-      again = file_back A g.met.L.Levels.lawful c.args.self.now;
+      again = subst (λ p. read_file A (file_of A p) ≡ Ok p) c.self.view_is (file_back A g.met.L.Levels.lawful (content_of c.self.inside.held) c.self.invariant);
     }

@@ -1,6 +1,7 @@
 -- There is room for all bytes.
 use Rattle.std.proofs.Common.{◌++◌, ◌∙◌, arith}
 use Rattle.std.proofs.lemmas.List.{length-append, take_all}
+use Rattle.planfile.specs.declared.buffer.TheConstants.{LONGEST}
 use Rattle.planfile.specs.Written.{written}
 use Rattle.planfile.proofs.buffer.Buffer.extend.Goals as goal
 
@@ -8,4 +9,4 @@ pub returns : goal.returns
 returns c =
     let before = written c.args.self.now in
     let more = c.args.more.now in
-    c.extend.ensures ∙ take_all 137 (before ++ more) (omega (arith, c.requires, length-append before more))
+    c.extend.ensures ∙ take_all LONGEST (before ++ more) (omega (arith, c.requires, length-append before more))

@@ -1,17 +1,17 @@
 -- Every call leaves a plan whose words are legal, independent and no more than the limit.
-use Rattle.std.proofs.Common.{◌≡◌, ℕ, zero, suc, ◌+◌, ◌-◌, ◌*◌, ◌<◌, ◌≤◌, List, [], ◌∷◌, ◌++◌, length, get_or, take, drop, Ok, sym, refl, ap, ◌∙◌, subst, inl, inr, arith}
+use Rattle.std.proofs.Common.{◌≡◌, ℕ, zero, suc, ◌+◌, ◌-◌, ◌<◌, ◌≤◌, List, [], ◌∷◌, ◌++◌, length, get_or, take, drop, Ok, Err, Result, sym, refl, ap, ◌∙◌, subst, inl, inr, arith}
 use Rattle.std.proofs.lemmas.List.{append-nil, append_assoc, length-append, length-take, length-drop, get_or_append_left, get_or-append_right}
 use Rattle.std.proofs.lemmas.Bool.{cases_lt}
 use Rattle.levels.specs.Arithmetic.{Arithmetic, Lawful}
-use Rattle.levels.specs.Space.{Word}
+use Rattle.levels.specs.Space.{Word, AllWords}
 use Rattle.levels.specs.Generated.{Generates, Independent, others}
+use Rattle.levels.proofs.Any.{any_ind_left}
 use Rattle.levels.proofs.Generation.{generates_place, generates_front, generates_inside, generates_without, independent_bound, independent_front, independent_tail}
 use Rattle.levels.proofs.Space.{vector_space}
+use Rattle.contents.specs.declared.refusal.Refusal.{Refusal}
 use Rattle.contents.specs.declared.side.Side.{Side}
 use Rattle.contents.specs.declared.side.Side.TheVariants.{Defining, Block}
-use Rattle.contents.specs.Content.{Content, Kept, blank, both, side_of, with_side, started, admitted, struck, admitted_all}
-use Rattle.planfile.specs.File.{words_in, read_file}
-use Rattle.planfile.proofs.Files.{read_ok, read_words_ok}
+use Rattle.contents.specs.Content.{Content, Acts, Kept, blank, both, side_of, with_side, started, admitted, struck, admitted_all}
 use Rattle.contents.proofs.Membership.{not_generated}
 use Rattle.contents.proofs.Outcomes.{same_ok, started_ok, admitted_ok, admitted_all_ok, struck_ok}
 
@@ -79,6 +79,17 @@ module _ (A : Arithmetic) (L : Lawful A) (n : ℕ) (low : 1 ≤ n) (high : n ≤
       (λ i l. generates_front A L n V us w vs (get_or (us ++ w ∷ vs) i 0) (generates_place A L n V (us ++ w ∷ vs) i (words i l)))
       (omega (arith, length-append us (w ∷ vs), length-append us vs)))
 
+-- a call that acts, or is refused, leaves a plan that is kept, if what it makes is
+pub acts_kept : (A : Arithmetic) (r : Result Content Refusal) (p q : Content) (answer : Result (Unit {0}) Refusal) → Acts r p q answer → Kept A p → ((x : Content) → r ≡ Ok x → Kept A x) → Kept A q
+acts_kept A (Ok x) p q answer h k made = subst (Kept A) (sym h.1) (made x refl)
+acts_kept A (Err e) p q answer h k made = subst (Kept A) (sym h.1) k
+
+-- the defining words of a plan that is kept: words, independent and within the limit
+pub record KeptDefining (A : Arithmetic) (p : Content) : Type 0 where
+  pub few : length p.defining ≤ A.limit
+  pub words : AllWords A p.factors p.defining
+  pub independent : Independent A p.factors p.defining
+
 -- no words are kept
 pub blank_kept : (A : Arithmetic) (n : ℕ) → 1 ≤ n → n ≤ 32 → Kept A (blank n)
 blank_kept A n low high = record {
@@ -93,58 +104,55 @@ blank_kept A n low high = record {
 pub started_kept : (A : Arithmetic) (n : ℕ) (q : Content) → started n ≡ Ok q → Kept A q
 started_kept A n q h = let s = started_ok n q h in subst (Kept A) (sym s.result) (blank_kept A n s.low s.high)
 
+-- words that a plan of n factors may hold
+pub record Sound (A : Arithmetic) (n : ℕ) (ws : List ℕ) : Type 0 where
+  pub low : 1 ≤ n
+  pub high : n ≤ 32
+  pub few : length ws ≤ A.limit
+  pub words : AllWords A n ws
+  pub independent : Independent A n ws
+
+-- the words of a plan that is kept are sound
+pub sound : (A : Arithmetic) (p : Content) → Kept A p → Sound A p.factors (both p)
+sound A p k = record { low = k.low; high = k.high; few = k.few; words = k.words; independent = k.independent }
+
+-- a plan whose words are sound is kept
+kept : (A : Arithmetic) (p : Content) (ws : List ℕ) → both p ≡ ws → Sound A p.factors ws → Kept A p
+kept A p ws e s =
+    let k : Sound A p.factors (both p) = subst (Sound A p.factors) (sym e) s in
+    record { low = k.low; high = k.high; few = k.few; words = k.words; independent = k.independent }
+
 module _ (A : Arithmetic) (L : Lawful A) where
   -- a fresh word within the limit may stand anywhere among the words
-  insert_kept : (n : ℕ) (us : List ℕ) (w : ℕ) (vs : List ℕ) (p q : Content) → Kept A p → p.factors ≡ n → q.factors ≡ n → both p ≡ us ++ vs → both q ≡ us ++ w ∷ vs → Word A n w → (Generates A n (us ++ vs) w → ⊥) → length (both p) < A.limit → Kept A q
-  insert_kept n us w vs p q k fp fq ep eq word fresh room =
-      let low : 1 ≤ n = subst (λ m. 1 ≤ m) fp k.low in
-      let high : n ≤ 32 = subst (λ m. m ≤ 32) fp k.high in
-      let words : Each (Word A n) (us ++ vs) =
-      subst (λ m. Each (Word A m) (us ++ vs)) fp (subst (λ zs. Each (Word A p.factors) zs) ep k.words) in
-      let ind : Independent A n (us ++ vs) =
-      subst (λ m. Independent A m (us ++ vs)) fp (subst (λ zs. Independent A p.factors zs) ep k.independent) in
-      let words' : Each (Word A n) (us ++ w ∷ vs) =
-      each_append (Word A n) us (w ∷ vs) (each_left (Word A n) us vs words)
-      (each_append (Word A n) (w ∷ []) vs (each_one (Word A n) w word) (each_right (Word A n) us vs words)) in
-      let ind' : Independent A n (us ++ w ∷ vs) = independent_insert A L n low high us w vs words word ind fresh in
-      record {
-        low = subst (λ m. 1 ≤ m) (sym fq) low;
-        high = subst (λ m. m ≤ 32) (sym fq) high;
-        few = omega (arith, ap length ep, ap length eq, length-append us vs, length-append us (w ∷ vs));
-        words = subst (λ m. Each (Word A m) (both q)) (sym fq) (subst (λ zs. Each (Word A n) zs) (sym eq) words');
-        independent = subst (λ m. Independent A m (both q)) (sym fq) (subst (λ zs. Independent A n zs) (sym eq) ind');
-      }
+  insert_sound : (n : ℕ) (us : List ℕ) (w : ℕ) (vs : List ℕ) → Sound A n (us ++ vs) → Word A n w → (Generates A n (us ++ vs) w → ⊥) → length (us ++ vs) < A.limit → Sound A n (us ++ w ∷ vs)
+  insert_sound n us w vs s word fresh room = record {
+    low = s.low;
+    high = s.high;
+    few = omega (arith, room, length-append us vs, length-append us (w ∷ vs));
+    words = each_append (Word A n) us (w ∷ vs) (each_left (Word A n) us vs s.words) (each_append (Word A n) (w ∷ []) vs (each_one (Word A n) w word) (each_right (Word A n) us vs s.words));
+    independent = independent_insert A L n s.low s.high us w vs s.words word s.independent fresh;
+  }
 
   -- a word may be left out anywhere
-  remove_kept : (n : ℕ) (us : List ℕ) (w : ℕ) (vs : List ℕ) (p q : Content) → Kept A p → p.factors ≡ n → q.factors ≡ n → both p ≡ us ++ w ∷ vs → both q ≡ us ++ vs → Kept A q
-  remove_kept n us w vs p q k fp fq ep eq =
-      let low : 1 ≤ n = subst (λ m. 1 ≤ m) fp k.low in
-      let high : n ≤ 32 = subst (λ m. m ≤ 32) fp k.high in
-      let words : Each (Word A n) (us ++ w ∷ vs) =
-      subst (λ m. Each (Word A m) (us ++ w ∷ vs)) fp (subst (λ zs. Each (Word A p.factors) zs) ep k.words) in
-      let ind : Independent A n (us ++ w ∷ vs) =
-      subst (λ m. Independent A m (us ++ w ∷ vs)) fp (subst (λ zs. Independent A p.factors zs) ep k.independent) in
-      let words' : Each (Word A n) (us ++ vs) =
-      each_append (Word A n) us vs (each_left (Word A n) us (w ∷ vs) words)
-      (each_right (Word A n) (w ∷ []) vs (each_right (Word A n) us (w ∷ vs) words)) in
-      let ind' : Independent A n (us ++ vs) = independent_remove A L n low high us w vs words ind in
-      record {
-        low = subst (λ m. 1 ≤ m) (sym fq) low;
-        high = subst (λ m. m ≤ 32) (sym fq) high;
-        few = omega (arith, k.few, ap length ep, ap length eq, length-append us vs, length-append us (w ∷ vs));
-        words = subst (λ m. Each (Word A m) (both q)) (sym fq) (subst (λ zs. Each (Word A n) zs) (sym eq) words');
-        independent = subst (λ m. Independent A m (both q)) (sym fq) (subst (λ zs. Independent A n zs) (sym eq) ind');
-      }
+  remove_sound : (n : ℕ) (us : List ℕ) (w : ℕ) (vs : List ℕ) → Sound A n (us ++ w ∷ vs) → Sound A n (us ++ vs)
+  remove_sound n us w vs s = record {
+    low = s.low;
+    high = s.high;
+    few = omega (arith, s.few, length-append us vs, length-append us (w ∷ vs));
+    words = each_append (Word A n) us vs (each_left (Word A n) us (w ∷ vs) s.words) (each_right (Word A n) (w ∷ []) vs (each_right (Word A n) us (w ∷ vs) s.words));
+    independent = independent_remove A L n s.low s.high us w vs s.words s.independent;
+  }
 
   -- all words with one more on one side
   push_kept : (side : Side) (w : ℕ) (p : Content) → Kept A p → Word A p.factors w → (Generates A p.factors (both p) w → ⊥) → length (both p) < A.limit → Kept A (with_side side (side_of side p ++ w ∷ []) p)
   push_kept Defining w p k word fresh room =
-      insert_kept p.factors p.defining w p.block p (with_side Defining (p.defining ++ w ∷ []) p) k refl refl refl
-      (append_assoc p.defining (w ∷ []) p.block) word fresh room
+      kept A (with_side Defining (p.defining ++ w ∷ []) p) (p.defining ++ w ∷ p.block) (append_assoc p.defining (w ∷ []) p.block)
+      (insert_sound p.factors p.defining w p.block (sound A p k) word fresh room)
   push_kept Block w p k word fresh room =
-      insert_kept p.factors (both p) w [] p (with_side Block (p.block ++ w ∷ []) p) k refl refl
-      (sym (append-nil (both p))) (sym (append_assoc p.defining p.block (w ∷ []))) word
-      (subst (λ zs. Generates A p.factors zs w → ⊥) (sym (append-nil (both p))) fresh) room
+      let e : both p ≡ both p ++ [] = sym (append-nil (both p)) in
+      kept A (with_side Block (p.block ++ w ∷ []) p) (both p ++ w ∷ []) (sym (append_assoc p.defining p.block (w ∷ [])))
+      (insert_sound p.factors (both p) w [] (subst (Sound A p.factors) e (sound A p k)) word
+      (subst (λ zs. Generates A p.factors zs w → ⊥) e fresh) (subst (λ zs. length zs < A.limit) e room))
 
   -- a plan to which a word was admitted is kept
   pub admitted_kept : (side : Side) (w : ℕ) (p q : Content) → Kept A p → admitted A side w p ≡ Ok q → Kept A q
@@ -163,14 +171,18 @@ module _ (A : Arithmetic) (L : Lawful A) where
   cut_kept : (side : Side) (i : ℕ) (p : Content) → Kept A p → i < length (side_of side p) → Kept A (with_side side (take i (side_of side p) ++ drop (suc i) (side_of side p)) p)
   cut_kept Defining i p k l =
       let ds = p.defining in
-      remove_kept p.factors (take i ds) (get_or ds i 0) (drop (suc i) ds ++ p.block) p (with_side Defining (take i ds ++ drop (suc i) ds) p) k refl refl
-      (ap (λ zs. zs ++ p.block) (around ds i l) ∙ append_assoc (take i ds) (get_or ds i 0 ∷ drop (suc i) ds) p.block)
-      (append_assoc (take i ds) (drop (suc i) ds) p.block)
+      let back = drop (suc i) ds in
+      let e : both p ≡ take i ds ++ get_or ds i 0 ∷ (back ++ p.block) =
+      ap (λ zs. zs ++ p.block) (around ds i l) ∙ append_assoc (take i ds) (get_or ds i 0 ∷ back) p.block in
+      kept A (with_side Defining (take i ds ++ back) p) (take i ds ++ (back ++ p.block)) (append_assoc (take i ds) back p.block)
+      (remove_sound p.factors (take i ds) (get_or ds i 0) (back ++ p.block) (subst (Sound A p.factors) e (sound A p k)))
   cut_kept Block i p k l =
       let bs = p.block in
-      remove_kept p.factors (p.defining ++ take i bs) (get_or bs i 0) (drop (suc i) bs) p (with_side Block (take i bs ++ drop (suc i) bs) p) k refl refl
-      (ap (λ zs. p.defining ++ zs) (around bs i l) ∙ sym (append_assoc p.defining (take i bs) (get_or bs i 0 ∷ drop (suc i) bs)))
-      (sym (append_assoc p.defining (take i bs) (drop (suc i) bs)))
+      let back = drop (suc i) bs in
+      let e : both p ≡ (p.defining ++ take i bs) ++ get_or bs i 0 ∷ back =
+      ap (λ zs. p.defining ++ zs) (around bs i l) ∙ sym (append_assoc p.defining (take i bs) (get_or bs i 0 ∷ back)) in
+      kept A (with_side Block (take i bs ++ back) p) ((p.defining ++ take i bs) ++ back) (sym (append_assoc p.defining (take i bs) back))
+      (remove_sound p.factors (p.defining ++ take i bs) (get_or bs i 0) back (subst (Sound A p.factors) e (sound A p k)))
 
   -- a plan from which a word was struck is kept
   pub struck_kept : (side : Side) (place : ℕ) (p q : Content) → Kept A p → struck side place p ≡ Ok q → Kept A q
@@ -181,11 +193,10 @@ module _ (A : Arithmetic) (L : Lawful A) where
       (ap (λ m. with_side side (take (place - 1) (side_of side p) ++ drop m (side_of side p)) p) next ∙ sym s.result)
       (cut_kept side (place - 1) p k (omega (arith, s.low, s.high)))
 
-  -- a file that was read holds a plan that is kept
-  pub read_file_kept : (f : List ℕ) (p : Content) → read_file A f ≡ Ok p → Kept A p
-  read_file_kept f p h =
-      let r = read_ok A f p h in
-      let n = get_or f 6 0 in
-      let w = read_words_ok A n (get_or f 7 0) (get_or f 8 0) (drop 9 f) p r.words in
-      let first : Kept A w.0 = admitted_all_kept Defining (words_in (get_or f 7 0) (drop 9 f)) (blank n) w.0 (blank_kept A n r.size.low r.size.high) w.1 in
-      admitted_all_kept Block (words_in (get_or f 8 0) (drop (8 * get_or f 7 0) (drop 9 f))) w.0 p first w.2
+  -- what is kept of all words is kept of the defining ones
+  pub kept_defining : (p : Content) → Kept A p → KeptDefining A p
+  kept_defining p k = record {
+    few = omega (arith, k.few, length-append p.defining p.block);
+    words = each_left (Word A p.factors) p.defining p.block k.words;
+    independent = any_ind_left A L p.factors (vector_space A L p.factors) p.defining p.block k.independent;
+  }
