@@ -1,11 +1,8 @@
 -- A list that is written over memory, one number after the other.
-use Rattle.std.proofs.Common.{◌≡◌, ℕ, zero, suc, ◌+◌, ◌<◌, ◌≤◌, min, Bool, true, false, cond, ltb, List, [], ◌∷◌, ◌++◌, length, get_or, take, drop, set, Ok, Err, sym, refl, ap, ap₂, ◌∙◌, le_of_suc-le-suc, not-suc-le-zero, add-one, arith, ltb-false, ltb-true}
+use Rattle.std.proofs.Common.{◌≡◌, ℕ, zero, suc, min, List, [], ◌∷◌, ◌++◌, length, take, drop, sym, ap, ap₂, ◌∙◌, arith}
 use Rattle.std.proofs.Math.Seq.{take-nil, drop-nil}
 use Rattle.std.proofs.lemmas.List.{take-append-drop}
 use Rattle.aliasing.specs.Filled.{filled}
-use Rattle.contents.specs.declared.refusal.Refusal.{Refusal}
-use Rattle.contents.specs.declared.refusal.Refusal.TheVariants.{Last}
-use Rattle.plan.specs.Answers.{entry}
 
 -- a list of which at most so many are written
 pub filled_limited : (xs ys : List ℕ) (m k : ℕ) → k ≡ min (length ys) m → filled xs (take k ys) ++ drop k ys ≡ filled (take m xs) ys

@@ -4,12 +4,11 @@ use Rattle.std.proofs.lemmas.List.{length-append}
 use Rattle.std.proofs.lemmas.Bool.{and_from, cases_lt, le-leb, leb-true, eqb-true}
 use Rattle.levels.specs.Arithmetic.{Arithmetic, Lawful, two}
 use Rattle.levels.specs.Words.{legal, word_sum}
-use Rattle.levels.specs.Space.{Word, AllWords}
-use Rattle.levels.specs.Generated.{Independent, SameWords, ascending, generated}
-use Rattle.levels.proofs.Any.{any_ind_left}
+use Rattle.levels.specs.Space.{AllWords}
+use Rattle.levels.specs.Generated.{SameWords, ascending, generated}
 use Rattle.levels.specs.Lawful.{lawful_two}
-use Rattle.levels.proofs.Multiplicity.{same_generated, same_alias_set}
-use Rattle.levels.proofs.Space.{vector_space}
+use Rattle.levels.proofs.Multiplicity.{same_alias_set}
+use Rattle.levels.proofs.Sets.{generated_same}
 use Rattle.levels.proofs.Theory.{generation}
 use Rattle.preferences.specs.Relation.{Relation, PreferenceLaws, all_legal, fair}
 use Rattle.preferences.specs.Built.{by_score, length_score, shortest, least_aberration}
@@ -23,7 +22,7 @@ use Rattle.contents.specs.declared.side.Side.{Side}
 use Rattle.contents.specs.declared.side.Side.TheVariants.{Defining, Block}
 use Rattle.contents.specs.Content.{Content, Kept}
 use Rattle.plan.specs.Answers.{chosen, entry, run_of}
-use Rattle.planfile.proofs.Keeps.{each_left}
+use Rattle.contents.proofs.Keeps.{kept_defining}
 use Rattle.page.specs.Page.{shown, fields, line, resolution_fields, page}
 use Rattle.history.specs.Law.{SamePlanWords, EqualAnswers}
 use Rattle.history.proofs.Twos.{same_words_two}
@@ -76,21 +75,9 @@ sheet_same A n d d' b b' set set' gs gs' hs hs' last last' e1 e2 e3 e4 e5 e6 = c
 abbrev clear_from : ℕ → List ℕ → List ℕ
 clear_from n gs = map (λ p. cond (crowded p (ascending (map (word_sum two n p) gs))) 0 1) (pairs n)
 
--- the defining words of a kept plan: words, independent and within the limit
-pub record KeptDefining (A : Arithmetic) (p : Content) : Type 0 where
-  pub words : AllWords A p.factors p.defining
-  pub independent : Independent A p.factors p.defining
-  pub judged_by : fair A p.factors p.defining ≡ true
-
--- a kept plan has them
-pub kept_defining : (A : Arithmetic) → Lawful A → (p : Content) → Kept A p → KeptDefining A p
-kept_defining A L p k =
-    let words : AllWords A p.factors p.defining = each_left (Word A p.factors) p.defining p.block k.words in
-    record {
-      words = words;
-      independent = any_ind_left A L p.factors (vector_space A L p.factors) p.defining p.block k.independent;
-      judged_by = fair_of A p.factors p.defining (omega (arith, k.few, length-append p.defining p.block)) words;
-    }
+-- a preference judges by the defining words of a kept plan
+judged_by : (A : Arithmetic) → Lawful A → (p : Content) → Kept A p → fair A p.factors p.defining ≡ true
+judged_by A L p k = let d = kept_defining A L p k in fair_of A p.factors p.defining d.few d.words
 
 -- Two contents of n factors.
 module _ (A : Arithmetic) (L : Lawful A) (n : ℕ) (ds bs es cs : List ℕ) where
@@ -104,11 +91,11 @@ module _ (A : Arithmetic) (L : Lawful A) (n : ℕ) (ds bs es cs : List ℕ) wher
 
   -- with two levels, the same clear bytes
   two_clear : SameWords two n ds es → clear_bytes n ds ≡ clear_bytes n es
-  two_clear same = ap (clear_from n) (same_generated two lawful_two n ds es same)
+  two_clear same = ap (clear_from n) (generated_same two lawful_two n ds es same)
 
   -- with two levels, the same runs
   two_run : SameWords two n ds es → (m : ℕ) → run_of m one ≡ run_of m another
-  two_run same m = ap (λ gs. entry (runs_upto n gs (2 ^ n)) m) (same_generated two lawful_two n ds es same)
+  two_run same m = ap (λ gs. entry (runs_upto n gs (2 ^ n)) m) (generated_same two lawful_two n ds es same)
 
   module _ (k : Kept A one) (k' : Kept A another) (same : SameWords A n ds es) (together : SameWords A n (ds ++ bs) (es ++ cs)) where
     -- as many defining words
@@ -131,7 +118,7 @@ module _ (A : Arithmetic) (L : Lawful A) (n : ℕ) (ds bs es cs : List ℕ) wher
         let none : fair A n [] ≡ true = fair_of A n [] (omega arith) (λ i l. absurd (omega arith)) in
         same_generators A L good laws n [] ds [] es none none (λ w. ((λ g. g), (λ g. g))) same
     chosen-alike good laws Block =
-        same_generators A L good laws n ds bs es cs (kept_defining A L one k).judged_by (kept_defining A L another k').judged_by same together
+        same_generators A L good laws n ds bs es cs (judged_by A L one k) (judged_by A L another k') same together
 
     -- the same clear bytes
     clear-alike : A.s ≡ 2 → clear_bytes n ds ≡ clear_bytes n es
@@ -139,7 +126,7 @@ module _ (A : Arithmetic) (L : Lawful A) (n : ℕ) (ds bs es cs : List ℕ) wher
 
     -- the same generated words
     set-alike : generated A n ds ≡ generated A n es
-    set-alike = same_generated A L n ds es same
+    set-alike = generated_same A L n ds es same
 
     -- the same last line
     last-alike : last_line A (clear_bytes n ds) ≡ last_line A (clear_bytes n es)

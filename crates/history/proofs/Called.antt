@@ -4,7 +4,8 @@ use Rattle.levels.specs.Arithmetic.{Arithmetic, Lawful}
 use Rattle.contents.specs.declared.refusal.Refusal.{Refusal}
 use Rattle.contents.specs.Content.{Content, Kept, started, admitted, struck}
 use Rattle.planfile.specs.File.{read_file}
-use Rattle.planfile.proofs.Keeps.{blank_kept, started_kept, admitted_kept, struck_kept, read_file_kept}
+use Rattle.contents.proofs.Keeps.{blank_kept, started_kept, admitted_kept, struck_kept}
+use Rattle.planfile.proofs.Roundtrip.{read_file_kept}
 use Rattle.history.specs.Calls.{Call, start, read, admit, strike, settle, reopen, ask, Working, new, acted, of_open, of_settled, after, after_all, Settles}
 
 -- a call that acts or changes nothing
@@ -14,7 +15,7 @@ acted_kept A (Err e) p k h = k
 
 module _ (A : Arithmetic) (L : Lawful A) where
   -- what is left, if a plan is, is kept
-  abbrev KeptIfLeft : Option Working → Type 0
+  abbrev pub KeptIfLeft : Option Working → Type 0
   KeptIfLeft o = IfSome o (λ w. Kept A w.content)
 
   -- a call on an open plan
@@ -38,7 +39,7 @@ module _ (A : Arithmetic) (L : Lawful A) where
   settled_kept ask p k = k
 
   -- one call leaves a kept content
-  pub after_kept : (call : Call) (w : Working) → Kept A w.content → KeptIfLeft (after A call w)
+  after_kept : (call : Call) (w : Working) → Kept A w.content → KeptIfLeft (after A call w)
   after_kept call w k = by w.settled
     where
       by : (b : Bool) → KeptIfLeft (cond b (of_settled call w.content) (of_open A call w.content))
@@ -46,7 +47,7 @@ module _ (A : Arithmetic) (L : Lawful A) where
       by false = open_kept call w.content k
 
   -- so does a list of calls
-  pub after_all_kept : (calls : List Call) (w : Working) → Kept A w.content → KeptIfLeft (after_all A calls w)
+  after_all_kept : (calls : List Call) (w : Working) → Kept A w.content → KeptIfLeft (after_all A calls w)
   after_all_kept [] w k = k
   after_all_kept (call ∷ calls) w k =
       (elim (after A call w) as (λ o. KeptIfLeft o → KeptIfLeft (elim o [ Some v ↦ after_all A calls v | None ↦ None ])) [
@@ -54,6 +55,10 @@ module _ (A : Arithmetic) (L : Lawful A) where
         | None ↦ λ h. tt
       ]) (after_kept call w k)
 
+  -- and so does a list of calls on a new plan
+  pub called_kept : (calls : List Call) → KeptIfLeft (after_all A calls new)
+  called_kept calls = after_all_kept calls new (blank_kept A 1 (omega arith) (omega arith))
+
   -- the content of a settled plan is kept, whatever the calls were
   pub settles_kept : (calls : List Call) (p : Content) → Settles A calls p → Kept A p
-  settles_kept calls p h = subst KeptIfLeft h (after_all_kept calls new (blank_kept A 1 (omega arith) (omega arith)))
+  settles_kept calls p h = subst KeptIfLeft h (called_kept calls)

@@ -1,7 +1,5 @@
 // The trial page of a plan file.
 ghost use Rattle.std.specs.Prelude.{◌≡◌};
-ghost use Rattle.page.specs.Page.{page as page_of};
-ghost use Rattle.planfile.specs.File.{read_file};
 ghost use Rattle.history.specs.Law.{PageOfFile, levels_of};
 
 use contents::Refusal;

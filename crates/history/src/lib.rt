@@ -9,3 +9,6 @@ pub mod run;
 pub mod trial;
 
 pub use file::trial_page;
+
+// A page has at most so many bytes.
+pub const PAGE: usize = page::LONGEST;

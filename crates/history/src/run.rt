@@ -4,9 +4,11 @@ ghost use Rattle.std.specs.Option.{option_map};
 ghost use Rattle.history.specs.Calls.{after, after_all, new, of_open, of_settled};
 ghost use Rattle.history.specs.Meant.{meant, working_of};
 
+use crate::PAGE;
 use crate::call::{Call, Question};
 use crate::trial::Trial;
-use levels::Levels;
+use aliasing::pattern::LENGTHS;
+use levels::{Levels, MOST};
 use page::page;
 use plan::{OpenPlan, SettledPlan};
 use preferences::Shortest;
@@ -79,13 +81,13 @@ fn ask<L: Levels>(plan: &SettledPlan<L>, question: Question) {
             let _ = plan.word(side, place);
         }
         Question::Write => {
-            let _ = plan.write(&mut [0; 137]);
+            let _ = plan.write(&mut [0; planfile::LONGEST]);
         }
         Question::Generators(side) => {
-            let _ = plan.choose(side, &Shortest, &mut [0; 16]);
+            let _ = plan.choose(side, &Shortest, &mut [0; MOST]);
         }
         Question::Pattern => {
-            let _ = plan.pattern(&mut [0; 32]);
+            let _ = plan.pattern(&mut [0; LENGTHS]);
         }
         Question::Resolution => {
             let _ = plan.resolution();
@@ -94,7 +96,7 @@ fn ask<L: Levels>(plan: &SettledPlan<L>, question: Question) {
             let _ = plan.alias_member(word, m);
         }
         Question::Page => {
-            let _ = page(plan, &mut [0; 1024]);
+            let _ = page(plan, &mut [0; PAGE]);
         }
     }
 }

@@ -2,15 +2,12 @@
 #![tactic(auto)]
 
 use calls::{aliases, generators, limits, three_factors};
-use history::trial_page;
+use history::{PAGE, trial_page};
 use std::io;
 use std::io::Write;
 
 mod calls;
 mod verdicts;
-
-// A page has at most so many bytes.
-const PAGE: usize = 1024;
 
 // A plan file, and what it holds.
 struct Case {

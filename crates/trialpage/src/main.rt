@@ -1,12 +1,9 @@
 // Reads a plan file from standard input, and prints its trial page, or one line with the number of the refusal.
 #![tactic(auto)]
 
-use history::trial_page;
+use history::{PAGE, trial_page};
 use std::io;
 use std::io::{Read, Write};
-
-// A page has at most so many bytes.
-const PAGE: usize = 1024;
 
 fn main(rt: HostRuntime) -> io::Result<()> {
     let mut file = Vec::new(rt.alloc());

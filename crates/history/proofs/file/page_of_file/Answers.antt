@@ -1,8 +1,10 @@
 use Rattle.std.proofs.Common.{rules}
+use Rattle.planfile.specs.File.{read_file}
 use Rattle.history.proofs.Filed.{page_read}
 use Rattle.history.proofs.file.page_of_file.Goals as goal
 
 pub returns : goal.returns
 returns g c =
-    page_read g.L.Levels.model g.met.L.Levels.lawful c.args.file.now c.new-plan.result c.settle.result _ _ _
-    (search rules) c.page.ensures.stored c.page.ensures.count
+    let A = g.L.Levels.model in
+    page_read A g.met.L.Levels.lawful (read_file A c.args.file.now) c.new-plan.result c.settle.result _ _ _
+    (search rules) c.settle.ensures.kept c.page.ensures.stored c.page.ensures.count
