@@ -61,6 +61,16 @@ module _ (ls : List ℕ) (i j : ℕ) (l : i < j) (h : j < length ls) (few : leng
   pub sum_here : r ≡ sum_at ls (32 * i + j - 1)
   sum_here = is ∙ sym (sum_pair ls i j l (omega arith))
 
+  -- if it has a place the word is in no chain, and meets the word there unless that is itself
+  pub short_met : (last before : List ℕ) → Settled ls → Chained ls (32 * i + j - 1) last before → (p : ℕ) → (a : ℕ) × (b : ℕ) × (a < b) × (two_letters a b ≡ r) × (p ≡ 32 * a + b - 1) →
+      Chained ls (32 * i + j) last before × (p ≢ 32 * i + j - 1 → IsOther ls (32 * i + j - 1) p) × (p ≡ 32 * i + j - 1 → NoOther ls (32 * i + j - 1))
+  short_met last before settled chained p at =
+      let k = 32 * i + j - 1 in
+      let st = pair_stands ls i j l h few in
+      let e : two_letters at.0 at.1 ≡ sum_at ls k = at.3 ∙ sum_here in
+      let q : (a : ℕ) × (b : ℕ) × (a < b) × (two_letters a b ≡ sum_at ls k) × (p ≡ 32 * a + b - 1) = (at.0, at.1, at.2, e, at.4) in
+      (chained_next ls k st (32 * i + j) last before (omega arith) (at.0, at.1, at.2, e) chained, other_short ls k st few settled p q, this_short ls k st few settled p q)
+
 -- the word of two letters that are their own least aliases is its own
 pub own_pair : (ls : List ℕ) (i j : ℕ) → i < j → j < length ls → length ls ≤ 33 → get_or ls i 0 ≡ one_letter i → get_or ls j 0 ≡ one_letter j → Own ls (32 * i + j - 1)
 own_pair ls i j l h few ei ej =

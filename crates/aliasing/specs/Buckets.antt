@@ -1,4 +1,4 @@
--- Chains of words by their places, one for each bucket of least aliases.
+-- Chains of words by their places, one for each bucket of least aliases, and bytes that tell which words are alone with theirs.
 use Rattle.std.specs.Prelude.{◌≡◌, ℕ, ◌-◌, ◌*◌, ◌/◌, ◌%◌, ◌^◌, ◌<◌, ◌≤◌, ◌≢◌, ◌⊎◌, List, length, slice_index}
 use Rattle.aliasing.specs.Short.{Own, Short, Stands, sum_at}
 

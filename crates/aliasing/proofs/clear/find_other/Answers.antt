@@ -1,41 +1,23 @@
 use Rattle.std.proofs.Common.{◌≡◌, ◌+◌, ◌-◌, ◌*◌, sym, ◌∙◌, subst, arith}
-use Rattle.aliasing.specs.Short.{two_letters, Short, sum_at}
+use Rattle.aliasing.specs.Short.{Short}
 use Rattle.aliasing.specs.Buckets.{Chained, IsOther, NoOther}
 use Rattle.aliasing.proofs.Factors.{pair_stands}
-use Rattle.aliasing.proofs.Others.{chained_next, other_short, this_short, other_none, other_met, found_map, sum_here}
+use Rattle.aliasing.proofs.Others.{short_met, other_none, other_met, found_map, sum_here}
 use Rattle.aliasing.proofs.clear.find_other.Goals as goal
 
 -- the word's least alias is the word
 pub returns-then-place-at : goal.returns-then-place-at
 returns-then-place-at c =
-    let ls = c.args.least.now in
-    let i = c.args.i in
-    let j = c.args.j in
-    let k = 32 * i + j - 1 in
-    let l = c.requires.first in
-    let st = pair_stands ls i j l c.requires.second c.requires.few in
-    let at = c.in-Some.ensures in
-    let e : two_letters at.0 at.1 ≡ sum_at ls k = at.3 ∙ sum_here ls i j l c.requires.second c.requires.few c.add-sum.result c.add-sum.ensures in
-    record {
-      chained = chained_next ls k st (32 * i + j) c.args.last.now c.args.before.now (omega arith) (at.0, at.1, at.2, e) c.requires.chained;
-      found = this_short ls k st c.requires.few c.requires.settled c.in-Some.place (at.0, at.1, at.2, e, at.4) c.if-place-at.true;
-    }
+    let met = short_met c.args.least.now c.args.i c.args.j c.requires.first c.requires.second c.requires.few c.add-sum.result c.add-sum.ensures
+    c.args.last.now c.args.before.now c.requires.settled c.requires.chained c.in-Some.place c.in-Some.ensures in
+    record { chained = met.0; found = met.2 c.if-place-at.true }
 
 -- it is another word with a place
 pub returns-else-place-at : goal.returns-else-place-at
 returns-else-place-at c =
-    let ls = c.args.least.now in
-    let i = c.args.i in
-    let j = c.args.j in
-    let k = 32 * i + j - 1 in
-    let l = c.requires.first in
-    let st = pair_stands ls i j l c.requires.second c.requires.few in
-    let at = c.in-Some.ensures in
-    let e : two_letters at.0 at.1 ≡ sum_at ls k = at.3 ∙ sum_here ls i j l c.requires.second c.requires.few c.add-sum.result c.add-sum.ensures in
-    record {
-      chained = chained_next ls k st (32 * i + j) c.args.last.now c.args.before.now (omega arith) (at.0, at.1, at.2, e) c.requires.chained;
-      found = other_short ls k st c.requires.few c.requires.settled c.in-Some.place (at.0, at.1, at.2, e, at.4) c.if-place-at.false;
-    }
+    let met = short_met c.args.least.now c.args.i c.args.j c.requires.first c.requires.second c.requires.few c.add-sum.result c.add-sum.ensures
+    c.args.last.now c.args.before.now c.requires.settled c.requires.chained c.in-Some.place c.in-Some.ensures in
+    record { chained = met.0; found = met.1 c.if-place-at.false }
 
 -- it has more letters, or none
 pub meet-requires : goal.meet-requires
