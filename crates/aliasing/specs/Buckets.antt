@@ -6,7 +6,7 @@ use Rattle.aliasing.specs.Short.{Own, Short, Stands, sum_at}
 abbrev pub bucket_of : ℕ → ℕ
 bucket_of r = r * 0x9e37_79b9_7f4a_7c15 % 2 ^ 64 / 2 ^ 54
 
--- the least alias of the word at a place has not one letter or two
+-- the word at a place has a least alias that is no word of one letter or two
 abbrev pub Long : List ℕ → ℕ → Type 0
 Long ls p = Stands ls p × (Short (sum_at ls p) → ⊥)
 
@@ -17,7 +17,7 @@ pub record LastBefore (ls : List ℕ) (b top place : ℕ) : Type 0 where
   pub there : 0 < place → bucket_of (sum_at ls (place - 1)) ≡ b
   pub none_between : (i : ℕ) → place ≤ i → i < top → Long ls i → bucket_of (sum_at ls i) ≢ b
 
--- The words before place k in chains: to each bucket the place of its last word, and to each word that of the one before it.
+-- Such words before place k in chains: to each bucket the place of its last word, and to each word that of the one before it.
 pub record Chained (ls : List ℕ) (k : ℕ) (last before : List ℕ) : Type 0 where
   pub buckets : length last ≡ 1024
   pub places : length before ≡ 1024

@@ -117,7 +117,7 @@ fn mark_others(least: &[u64], alone: &mut [u8])
     }
 }
 
-// Which letters are their own least aliases. The sum of two such is its own.
+// Which letters are their own least aliases, and that code 0 is. The sum of two such is its own.
 fn own_letters(least: &[u64]) -> [bool; 33]
     requires { length least.now ≤ 33 }
     ensures { (k : ℕ) → k < length least.now → slice_index_or result k false ≡ true → slice_index least.now k ≡ one_letter k }

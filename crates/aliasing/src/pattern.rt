@@ -22,7 +22,7 @@ pub fn pattern<L: Levels>(n: u8, words: &[u64]) -> [u32; LENGTHS]
         return [0; LENGTHS];
     }
     let multiples = u64::from(L::LEVELS) - 1;
-    // Most counts are 0, and a division takes long.
+    // Many counts are 0, and a division takes long.
     array::from_fn(|i| match all[i + 1] {
         0 => 0,
         amount => fitting(amount / repeats / multiples),

@@ -175,7 +175,7 @@ impl Table {
         array::from_fn(|zeros| self.step(zeros))
     }
 
-    // What is added to the run before one whose number ends in so many zeros: run 2^(zeros + 1) − 1; code 0 past the last.
+    // What is added to the run before one whose number ends in so many zeros: run 2^(zeros + 1) − 1. Past the last run it is not used.
     fn step(&self, zeros: usize) -> u64
         requires { zeros < 33 }
         ensures { (ws : List ℕ) → 1 ≤ self.now.factors → Rows self.now.factors ws self.now.rows → zeros < empty_below self.now.rows self.now.factors → Run self.now.factors (generated two self.now.factors ws) (2 ^ suc zeros - 1) result }

@@ -1,6 +1,6 @@
 // The arithmetic of levels, words, and what a list of words generates.
-// n and the words stay two parameters here, except in `Span`, of which questions are asked again and again: the struct that keeps both
-// is the plan, in a crate above.
+// n and the words stay two parameters here. `Span` holds both, for questions that are asked again and again; else the struct that
+// holds both is the plan, in a crate above.
 #![tactic(auto)]
 
 pub mod arithmetic;

@@ -117,7 +117,8 @@ fn spread<L: Levels>(n: u8, word: u64, sums: &mut Sums)
 }
 
 // Counts the sums of a start, the multiples of words and a leaf. A type for legal words, or for words, leaves and start
-// together, would carry the factors too, and the contract would ask that these are n instead.
+// together, would carry the factors too, and the contract would ask that these are n instead. Not of a `Span`: it goes on
+// with the rest of the words.
 fn count<L: Levels>(n: u8, words: &[u64], leaves: &[u64], start: u64, counts: &mut Tally)
     requires start { Word L.Levels.model n start }
     requires legal { AllWords L.Levels.model n leaves.now }

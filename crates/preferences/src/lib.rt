@@ -1,6 +1,6 @@
 // Preferences between words: which of two is better, given the words of a base list.
 // n, the base list and the two words are parameters of the question of the interface, `compare`; a search, which asks of one n and one
-// base list again and again, holds them in a `Span` and asks `prefer`.
+// base list again and again, holds these two in a `Span` and asks `prefer`.
 #![tactic(auto)]
 
 pub mod aberration;
