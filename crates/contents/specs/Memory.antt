@@ -11,6 +11,15 @@ holding answer memory = cond (nat_lt (length memory) (length answer)) memory (an
 abbrev pub wrote : {X : Type 0} → List X → List X → Result ℕ Refusal
 wrote answer memory = cond (nat_lt (length memory) (length answer)) (Err Memory) (Ok (length answer))
 
+-- the same of an answer that may be refused before memory is looked at
+abbrev pub holding_ok : {X : Type 0} → Result (List X) Refusal → List X → List X
+holding_ok (Ok answer) memory = holding answer memory
+holding_ok (Err e) memory = memory
+
+abbrev pub wrote_ok : {X : Type 0} → Result (List X) Refusal → List X → Result ℕ Refusal
+wrote_ok (Ok answer) memory = wrote answer memory
+wrote_ok (Err e) memory = Err e
+
 -- an answer at the start of memory and the old content beyond, if it is written at all
 abbrev pub holding_if : {X : Type 0} → Bool → List X → List X → List X
 holding_if fits answer memory = cond fits (answer ++ drop (length answer) memory) memory

@@ -1,5 +1,5 @@
 -- Two kept plans with the same words answer alike.
-use Rattle.std.proofs.Common.{◌≡◌, ℕ, suc, ◌^◌, ◌≤◌, Bool, true, false, cond, eqb, leb, List, [], ◌∷◌, ◌++◌, map, length, Err, codes, decimal, sym, refl, ap, subst, inl, inr, arith}
+use Rattle.std.proofs.Common.{◌≡◌, ℕ, suc, ◌^◌, ◌≤◌, ◌+◌, Bool, true, false, cond, eqb, leb, ltb, List, [], ◌∷◌, ◌++◌, map, length, take, drop, Ok, Err, Result, codes, decimal, sym, refl, ap, subst, inl, inr, arith}
 use Rattle.std.proofs.lemmas.List.{length-append}
 use Rattle.std.proofs.lemmas.Bool.{and_from, cases_lt, le-leb, leb-true, eqb-true}
 use Rattle.levels.specs.Arithmetic.{Arithmetic, Lawful, two}
@@ -17,15 +17,37 @@ use Rattle.choice.proofs.Greedy.{same_generators}
 use Rattle.aliasing.specs.Pattern.{pattern, resolution}
 use Rattle.aliasing.specs.Clear.{crowded, clear_bytes, ones_in, pairs}
 use Rattle.aliasing.specs.Runs.{runs_upto}
-use Rattle.contents.specs.declared.refusal.Refusal.TheVariants.{Illegal}
+use Rattle.contents.specs.declared.refusal.Refusal.{Refusal}
+use Rattle.contents.specs.declared.refusal.Refusal.TheVariants.{Illegal, Last}
 use Rattle.contents.specs.declared.side.Side.{Side}
 use Rattle.contents.specs.declared.side.Side.TheVariants.{Defining, Block}
 use Rattle.contents.specs.Content.{Content, Kept}
-use Rattle.plan.specs.Answers.{chosen, entry, run_of}
+use Rattle.plan.specs.Answers.{defined, chosen, chosen_scores, entry, alias_member, alias_set_of, run_of, runs_from, block_of}
 use Rattle.contents.proofs.Keeps.{kept_defining}
 use Rattle.page.specs.Page.{shown, fields, line, resolution_fields, page}
-use Rattle.history.specs.Law.{SamePlanWords, EqualAnswers}
-use Rattle.history.proofs.Twos.{same_words_two}
+use Rattle.history.specs.BestAndEqual.{GenerateTheSame}
+use Rattle.plan.proofs.Twos.{same_words_two}
+
+-- what two plans have in common that generate the same words
+pub record EqualParts (A : Arithmetic) (p q : Content) : Type 0 where
+  pub factors : p.factors ≡ q.factors
+  pub defining_count : length p.defining ≡ length q.defining
+  pub block_count : length p.block ≡ length q.block
+  pub generators : (good : Relation) → PreferenceLaws A good → (side : Side) → chosen A good side p ≡ chosen A good side q
+  pub scores : (good : Relation) → PreferenceLaws A good → (points : ℕ → ℕ → ℕ) (side : Side) → chosen_scores A good points side p ≡ chosen_scores A good points side q
+  pub patterns : pattern A p.factors (defined A p) ≡ pattern A q.factors (defined A q)
+  pub resolutions : resolution A p.factors (defined A p) ≡ resolution A q.factors (defined A q)
+  pub members : (w m : ℕ) → alias_member A w m p ≡ alias_member A w m q
+  pub alias_sets : (w : ℕ) → alias_set_of A w p ≡ alias_set_of A w q
+  pub clear : A.s ≡ 2 → clear_bytes p.factors p.defining ≡ clear_bytes q.factors q.defining
+  pub run : A.s ≡ 2 → (m : ℕ) → run_of m p ≡ run_of m q
+  pub runs : A.s ≡ 2 → (first count : ℕ) → runs_from first count p ≡ runs_from first count q
+  pub blocks : (run : ℕ) (ws : List ℕ) → block_of run ws p ≡ block_of run ws q
+  pub pages : page A p ≡ page A q
+
+-- a refusal in place of a value
+abbrev refused : {X : Type 0} → Refusal → Result X Refusal
+refused e = Err e
 
 -- a list of words is legal throughout
 all_legal_of : (A : Arithmetic) (n : ℕ) (ws : List ℕ) → AllWords A n ws → all_legal A n ws ≡ true
@@ -33,7 +55,7 @@ all_legal_of A n [] h = refl
 all_legal_of A n (w ∷ ws) h = and_from (legal A n w) (all_legal A n ws) (h 0 (omega arith)) (all_legal_of A n ws (λ i l. h (suc i) (omega arith)))
 
 -- words within the limit are a list that a preference judges by
-fair_of : (A : Arithmetic) (n : ℕ) (ws : List ℕ) → length ws ≤ A.limit → AllWords A n ws → fair A n ws ≡ true
+pub fair_of : (A : Arithmetic) (n : ℕ) (ws : List ℕ) → length ws ≤ A.limit → AllWords A n ws → fair A n ws ≡ true
 fair_of A n ws few words = and_from (leb (length ws) A.limit) (all_legal A n ws) (le-leb (length ws) A.limit few) (all_legal_of A n ws words)
 
 -- a preference by a score has the laws
@@ -97,6 +119,11 @@ module _ (A : Arithmetic) (L : Lawful A) (n : ℕ) (ds bs es cs : List ℕ) wher
   two_run : SameWords two n ds es → (m : ℕ) → run_of m one ≡ run_of m another
   two_run same m = ap (λ gs. entry (runs_upto n gs (2 ^ n)) m) (generated_same two lawful_two n ds es same)
 
+  two_runs : SameWords two n ds es → (first count : ℕ) → runs_from first count one ≡ runs_from first count another
+  two_runs same first count =
+      ap (λ gs. let runs = runs_upto n gs (2 ^ n) in cond (ltb (length runs) (first + count)) (refused {X = List ℕ} Last) (Ok (take count (drop first runs))))
+      (generated_same two lawful_two n ds es same)
+
   module _ (k : Kept A one) (k' : Kept A another) (same : SameWords A n ds es) (together : SameWords A n (ds ++ bs) (es ++ cs)) where
     -- as many defining words
     defining-alike : length ds ≡ length es
@@ -147,25 +174,28 @@ module _ (A : Arithmetic) (L : Lawful A) (n : ℕ) (ds bs es cs : List ℕ) wher
         defining-alike block-alike set-alike g h last-alike
 
     -- all answers
-    alike : EqualAnswers A one another
+    alike : EqualParts A one another
     alike = record {
+      factors = refl;
       defining_count = defining-alike;
       block_count = block-alike;
       generators = chosen-alike;
       scores = λ good laws points side. ap (map (points n)) (chosen-alike good laws side);
       patterns = ap (pattern A n) set-alike;
       resolutions = ap (resolution A n) set-alike;
-      aliases = λ w m. ap (λ set. cond (legal A n w) (entry set m) (Err Illegal)) (same_alias_set A L n ds es w same);
+      members = λ w m. ap (λ set. cond (legal A n w) (entry set m) (Err Illegal)) (same_alias_set A L n ds es w same);
+      alias_sets = λ w. ap (λ set. cond (legal A n w) (Ok set) (refused {X = List ℕ} Illegal)) (same_alias_set A L n ds es w same);
       clear = clear-alike;
-      runs = λ e m. two_run (same_words_two A L e n ds es same) m;
+      run = λ e m. two_run (same_words_two A L e n ds es same) m;
+      runs = λ e first count. two_runs (same_words_two A L e n ds es same) first count;
       blocks = λ run ws. refl;
       pages = page-alike;
     }
 
 -- two kept plans with the same words answer alike
-pub equal_answers : (A : Arithmetic) → Lawful A → (p q : Content) → Kept A p → Kept A q → SamePlanWords A p q → EqualAnswers A p q
-equal_answers A L p q k k' same =
-    subst (λ n. EqualAnswers A p (record { factors = n; defining = q.defining; block = q.block })) same.factors
+pub equal_parts : (A : Arithmetic) → Lawful A → (p q : Content) → Kept A p → Kept A q → GenerateTheSame A p q → EqualParts A p q
+equal_parts A L p q k k' same =
+    subst (λ n. EqualParts A p (record { factors = n; defining = q.defining; block = q.block })) same.factors
     (alike A L p.factors p.defining p.block q.defining q.block k
     (subst (λ n. Kept A (record { factors = n; defining = q.defining; block = q.block })) (sym same.factors) k')
     same.defining same.together)

@@ -1,6 +1,5 @@
 pub mod Alike
-pub mod Called
 pub mod Examples
 pub mod Filed
-pub mod Twos
-pub mod Whatever
+pub mod Kept
+pub mod ShownBest

@@ -1,67 +1,100 @@
--- What a list of calls leaves of a new plan, worked out from the calls and what they are handed.
-use Rattle.std.specs.Prelude.{◌≡◌, ℕ, Bool, true, false, cond, List, [], ◌∷◌, Some, None, Ok, Err, Option, Result}
+-- What a list of calls on a new plan leaves, and what each of its calls answers.
+use Rattle.std.specs.Borrow.{Bor}
+use Rattle.std.specs.Prelude.{◌≡◌, ℕ, true, false, if◌then◌else◌, List, [], ◌∷◌, Some, None, Ok, Err, Option, Result}
+use Rattle.std.specs.Option.{option_and_then, option_map_or}
+use Rattle.std.specs.Result.{result_unwrap_or}
 use Rattle.levels.specs.Arithmetic.{Arithmetic}
+use Rattle.preferences.specs.Relation.{Relation}
 use Rattle.contents.specs.declared.refusal.Refusal.{Refusal}
-use Rattle.contents.specs.declared.side.Side.{Side}
 use Rattle.contents.specs.Content.{Content, blank, started, admitted, struck}
 use Rattle.planfile.specs.File.{read_file}
+use Rattle.history.specs.declared.call.Call.{Call}
+use Rattle.history.specs.declared.call.Call.TheVariants.{Start, Read, Admit, Strike, Settle, Reopen, Ask}
+use Rattle.history.specs.declared.carry_out.Answer.{Answer}
+use Rattle.history.specs.declared.question.Question.{Question}
+use Rattle.history.specs.declared.question.Reply.{Reply}
+use Rattle.history.specs.declared.question.Reply.TheVariants.{Changed}
+use Rattle.history.specs.Lent.{Lent, lent}
+use Rattle.history.specs.Questions.{StatedQuestion, exists, answer, stated_question}
+use Rattle.history.specs.States.{State}
 
--- a call, with what it is handed; a question is a call too
-pub data Call : Type 0 where
-  start : ℕ → Call
-  read : List ℕ → Call
-  admit : Side → ℕ → Call
-  strike : Side → ℕ → Call
-  settle : Call
-  reopen : Call
-  ask : Call
+-- a call as it is stated: a file is its bytes, a question is stated too
+abbrev pub StatedCall : Type 0
+StatedCall = Call (List ℕ) StatedQuestion
 
--- a plan in the working: open or settled, and its content
-pub record Working : Type 0 where
-  pub settled : Bool
-  pub content : Content
+-- a plan that is open, and one that is settled
+abbrev pub open_state : Content → State
+open_state p = record { settled = false; content = p }
+
+abbrev pub settled_state : Content → State
+settled_state p = record { settled = true; content = p }
 
 -- a new plan is open, with one factor and no words
-abbrev pub new : Working
-new = record { settled = false; content = blank 1 }
+abbrev pub new : State
+new = open_state (blank 1)
 
--- a call acts, unless one of its checks fails: then nothing changes
-abbrev pub acted : Result Content Refusal → Content → Content
-acted (Ok q) p = q
-acted (Err e) p = p
+-- what a call leaves of an open plan, a refused one nothing else than there was; none where an open plan takes no such call
+abbrev pub after_open : Arithmetic → StatedCall → Content → Option State
+after_open A (Start n) p = Some (open_state (result_unwrap_or (started n) p))
+after_open A (Read file) p = Some (open_state (result_unwrap_or (read_file A file) p))
+after_open A (Admit side w) p = Some (open_state (result_unwrap_or (admitted A side w p) p))
+after_open A (Strike side place) p = Some (open_state (result_unwrap_or (struck side place p) p))
+after_open A Settle p = Some (settled_state p)
+after_open A Reopen p = None
+after_open A (Ask question) p = None
 
--- what becomes of an open plan, and of a settled one; none where the call is made in the other state than it needs
-abbrev pub of_open : Arithmetic → Call → Content → Option Working
-of_open A (start n) p = Some (record { settled = false; content = acted (started n) p })
-of_open A (read f) p = Some (record { settled = false; content = acted (read_file A f) p })
-of_open A (admit side w) p = Some (record { settled = false; content = acted (admitted A side w p) p })
-of_open A (strike side place) p = Some (record { settled = false; content = acted (struck side place p) p })
-of_open A settle p = Some (record { settled = true; content = p })
-of_open A reopen p = None
-of_open A ask p = None
+-- the same of a settled plan, which a question leaves as it is
+abbrev pub after_settled : Arithmetic → StatedCall → Content → Option State
+after_settled A Reopen p = Some (open_state p)
+after_settled A (Ask question) p = if exists A question then Some (settled_state p) else None
+after_settled A _ p = None
 
-abbrev pub of_settled : Call → Content → Option Working
-of_settled (start n) p = None
-of_settled (read f) p = None
-of_settled (admit side w) p = None
-of_settled (strike side place) p = None
-of_settled settle p = None
-of_settled reopen p = Some (record { settled = false; content = p })
-of_settled ask p = Some (record { settled = true; content = p })
-
-abbrev pub after : Arithmetic → Call → Working → Option Working
-after A call w = cond w.settled (of_settled call w.content) (of_open A call w.content)
+abbrev pub state_after : Arithmetic → StatedCall → State → Option State
+state_after A call w = if w.settled then after_settled A call w.content else after_open A call w.content
 
 -- what a list of calls leaves
-abbrev pub after_all : Arithmetic → List Call → Working → Option Working
-after_all A [] w = Some w
-after_all A (call ∷ calls) w = elim (after A call w) [ Some v ↦ after_all A calls v | None ↦ None ]
+abbrev pub plan_after : Arithmetic → List StatedCall → State → Option State
+plan_after A [] w = Some w
+plan_after A (call ∷ calls) w = option_and_then (plan_after A calls) (state_after A call w)
 
--- a list of calls on a new plan leaves it settled, with a content
-abbrev pub Settles : Arithmetic → List Call → Content → Type 0
-Settles A calls p = after_all A calls new ≡ Some (record { settled = true; content = p })
+-- a call that changes the plan tells that it did, or why not
+abbrev pub changed : Result Content Refusal → Reply
+changed (Ok q) = Changed (Ok tt)
+changed (Err e) = Changed (Err e)
 
--- the content of a plan that is settled
-abbrev pub settled_content : Option Working → Option Content
-settled_content None = None
-settled_content (Some w) = cond w.settled (Some w.content) None
+-- what a call returns, and what lent memory holds then
+abbrev pub answer_to : Arithmetic → StatedCall → Content → Lent → Reply × Lent
+answer_to A (Start n) p m = (changed (started n), m)
+answer_to A (Read file) p m = (changed (read_file A file), m)
+answer_to A (Admit side w) p m = (changed (admitted A side w p), m)
+answer_to A (Strike side place) p m = (changed (struck side place p), m)
+answer_to A Settle p m = (Changed (Ok tt), m)
+answer_to A Reopen p m = (Changed (Ok tt), m)
+answer_to A (Ask question) p m = answer A question p m
+
+-- what each call of a list answers, up to one that there is not where it is made
+abbrev pub answers : Arithmetic → List StatedCall → State → Lent → List (Reply × Lent)
+answers A [] w m = []
+answers A (call ∷ calls) w m =
+    let a = answer_to A call w.content m in
+    option_map_or (λ v. a ∷ answers A calls v a.1) (state_after A call w) []
+
+-- what lent memory holds in the end
+abbrev pub memory_after : Arithmetic → List StatedCall → State → Lent → Lent
+memory_after A [] w m = m
+memory_after A (call ∷ calls) w m =
+    option_map_or (λ v. memory_after A calls v (answer_to A call w.content m).1) (state_after A call w) m
+
+-- a call of the code as it is stated, by what its preferences mean
+abbrev pub stated_call : {P S : Type 0} → (P → Relation) → (S → Relation) → (S → ℕ → ℕ → ℕ) → Call (Bor (List ℕ)) (Question P S (Bor (List ℕ))) → StatedCall
+stated_call good good' points (Start n) = Start n
+stated_call good good' points (Read file) = Read file.now
+stated_call good good' points (Admit side w) = Admit side w
+stated_call good good' points (Strike side place) = Strike side place
+stated_call good good' points Settle = Settle
+stated_call good good' points Reopen = Reopen
+stated_call good good' points (Ask question) = Ask (stated_question good good' points question)
+
+-- an answer of the code
+abbrev pub answered : Answer → Reply × Lent
+answered a = (a.reply, lent a.memory)

@@ -1,4 +1,7 @@
+pub mod BestAndEqual
 pub mod Calls
-pub mod Law
-pub mod Meant
+pub mod Files
+pub mod Lent
+pub mod Questions
 pub mod Reference
+pub mod States

@@ -1,27 +1,23 @@
-// The calls on a plan, with what they are handed: enums, not closures, since the law speaks of every list of calls.
+// The calls on a plan, as data.
 use contents::Side;
 
-// A question whose answer is let go.
-#[derive(Clone, Copy)]
-pub enum Question {
-    Counts,
-    Word(Side, usize),
-    Write,
-    Generators(Side),
-    Pattern,
-    Resolution,
-    AliasMember(u64, u64),
-    Page,
-}
-
-// A call; an open plan takes Start to Settle, a settled one Reopen and Ask.
-#[derive(Clone, Copy)]
-pub enum Call<'a> {
+/// A call, with what it is handed: the bytes of a file `F`, a question `Q`.
+///
+/// An open plan takes the calls from `Start` to `Settle`, a settled one the other two.
+#[derive(Drop)]
+pub enum Call<F, Q> {
+    /// So many factors, and no words.
     Start(u8),
-    Read(&'a [u8]),
+    /// What a plan file holds.
+    Read(F),
+    /// A word more at the end of a list.
     Admit(Side, u64),
+    /// The word at a place of a list, from 1, is struck.
     Strike(Side, usize),
+    /// The plan changes no more.
     Settle,
+    /// The plan is open to changes again.
     Reopen,
-    Ask(Question),
+    /// A question.
+    Ask(Q),
 }

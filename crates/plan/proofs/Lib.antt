@@ -1,2 +1,4 @@
 pub mod Choosing
+pub mod Filling
 pub mod Running
+pub mod Twos

@@ -1,5 +1,5 @@
 -- What a settled plan answers, worked out from its content.
-use Rattle.std.specs.Prelude.{ℕ, ◌^◌, cond, List, [], map, length, Ok, Err, Result, nat_le, nat_lt, slice_index}
+use Rattle.std.specs.Prelude.{ℕ, ◌+◌, ◌^◌, cond, if◌then◌else◌, List, [], map, length, take, drop, Ok, Err, Result, nat_le, nat_lt, slice_index}
 use Rattle.levels.specs.Arithmetic.{Arithmetic, two}
 use Rattle.levels.specs.Words.{legal}
 use Rattle.levels.specs.Generated.{generated}
@@ -39,6 +39,10 @@ entry xs m = cond (nat_lt m (length xs)) (Ok (slice_index xs m)) (Err Last)
 abbrev pub alias_member : Arithmetic → ℕ → ℕ → Content → Result ℕ Refusal
 alias_member A w m p = cond (legal A p.factors w) (entry (alias_set A p.factors p.defining w) m) (Err Illegal)
 
+-- the alias set of a word over the defining words, in ascending code
+abbrev pub alias_set_of : Arithmetic → ℕ → Content → Result (List ℕ) Refusal
+alias_set_of A w p = if legal A p.factors w then Ok (alias_set A p.factors p.defining w) else Err Illegal
+
 -- with two levels, the runs, in ascending code: every word that the defining words generate has an even number of its letters at level 1
 abbrev pub runs_of : Content → List ℕ
 runs_of p = runs_upto p.factors (generated two p.factors p.defining) (2 ^ p.factors)
@@ -46,6 +50,11 @@ runs_of p = runs_upto p.factors (generated two p.factors p.defining) (2 ^ p.fact
 -- run m
 abbrev pub run_of : ℕ → Content → Result ℕ Refusal
 run_of m p = entry (runs_of p) m
+
+-- so many runs from a place on, from 0, none of them past the last
+abbrev pub runs_from : ℕ → ℕ → Content → Result (List ℕ) Refusal
+runs_from first count p =
+    if nat_lt (length (runs_of p)) (first + count) then Err Last else Ok (take count (drop first (runs_of p)))
 
 -- with two levels, the block number of a run under a list of words: the run is legal, the list is within the limit, its words are legal
 abbrev pub block_of : ℕ → List ℕ → Content → Result ℕ Refusal

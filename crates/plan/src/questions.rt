@@ -1,14 +1,14 @@
 // What is read off the words of a settled plan.
-ghost use Rattle.std.specs.Prelude.{◌≡◌, ℕ, ◌-◌, ◌^◌, ◌≤◌, min, length, drop};
+ghost use Rattle.std.specs.Prelude.{◌≡◌, ℕ, ◌-◌, ◌^◌, ◌≤◌, length};
 ghost use Rattle.levels.specs.Arithmetic.{two};
+ghost use Rattle.levels.specs.Alias.{alias_set};
 ghost use Rattle.levels.specs.Generated.{generated};
+ghost use Rattle.levels.specs.Space.{Word};
 ghost use Rattle.aliasing.specs.Clear.{clear_bytes};
-ghost use Rattle.aliasing.specs.Filled.{filled};
 ghost use Rattle.aliasing.specs.Pattern.{pattern, resolution};
 ghost use Rattle.aliasing.specs.Runs.{is_run};
-ghost use Rattle.plan.specs.Answers.{alias_member, block_of, defined, run_of, runs_of, wrote_ones};
-ghost use Rattle.plan.specs.Filled.{aliases_of, fill_count, fill_left};
-ghost use Rattle.contents.specs.Memory.{holding, wrote};
+ghost use Rattle.plan.specs.Answers.{alias_member, alias_set_of, block_of, defined, run_of, runs_from, runs_of, wrote_ones};
+ghost use Rattle.contents.specs.Memory.{holding, holding_ok, wrote, wrote_ok};
 
 use crate::settled::SettledPlan;
 use aliasing::{clear, members, runs};
@@ -47,16 +47,31 @@ impl<L: Levels> SettledPlan<L> {
         members::alias_member::<L>(n, self.list(Side::Defining), word, m).ok_or(Refusal::Last)
     }
 
-    // Writes the aliases of a word over the defining words, in ascending code, as many as there is room for.
-    pub fn aliases(&self, word: u64, memory: &mut [u64]) -> Result<usize, Refusal>
-        ensures count { result ≡ fill_count (aliases_of L.Levels.model word self.now) memory.old }
-        ensures stored { memory.new ≡ fill_left (aliases_of L.Levels.model word self.now) memory.old }
+    /// Writes the alias set of a word over the defining words, in ascending code; tells how many words it has.
+    ///
+    /// Refused: an illegal code, then memory shorter than the alias set.
+    pub fn alias_set(&self, word: u64, memory: &mut [u64]) -> Result<usize, Refusal>
+        ensures stored { memory.new ≡ holding_ok (alias_set_of L.model word self.now) memory.old }
+        ensures count { result ≡ wrote_ok (alias_set_of L.model word self.now) memory.old }
     {
         let n = self.factors();
         if !L::legal(n, word) {
             return Err(Refusal::Illegal);
         }
-        Ok(members::fill_aliases::<L>(n, self.list(Side::Defining), word, memory))
+        if memory.len() < self.alias_set_size() {
+            return Err(Refusal::Memory);
+        }
+        let words = self.list(Side::Defining);
+        Ok(members::fill_aliases::<L>(n, words, word, memory))
+    }
+
+    // How many words the alias set of any word has: the defining words are independent.
+    fn alias_set_size(&self) -> usize
+        ensures { let p = self.now in
+            (w : ℕ) → Word L.model p.factors w → length (alias_set L.model p.factors p.defining w) ≡ result }
+    {
+        let defining = self.list(Side::Defining).len();
+        usize::from(L::LEVELS).pow(defining as u32)
     }
 }
 
@@ -82,12 +97,30 @@ impl SettledPlan<TwoLevels> {
         runs::run(self.factors(), self.list(Side::Defining), m).ok_or(Refusal::Last)
     }
 
-    // Writes the runs from a place on, in ascending code, as many as there are and the memory takes; tells how many.
-    pub fn runs(&self, first: u64, memory: &mut [u64]) -> usize
-        ensures count { result ≡ min (length (drop first (runs_of self.now))) (length memory.old) }
-        ensures stored { memory.new ≡ filled (drop first (runs_of self.now)) memory.old }
+    /// Writes so many runs from a place on, from 0, in ascending code; tells how many they are.
+    ///
+    /// Refused: a run past the last, then memory shorter than so many.
+    pub fn runs(&self, first: u64, count: usize, memory: &mut [u64]) -> Result<usize, Refusal>
+        ensures stored { memory.new ≡ holding_ok (runs_from first count self.now) memory.old }
+        ensures count { result ≡ wrote_ok (runs_from first count self.now) memory.old }
     {
-        runs::fill_runs(self.factors(), self.list(Side::Defining), first, memory)
+        if self.run_count() < first.saturating_add(count as u64) {
+            return Err(Refusal::Last);
+        }
+        if memory.len() < count {
+            return Err(Refusal::Memory);
+        }
+        let words = self.list(Side::Defining);
+        Ok(runs::fill_runs(self.factors(), words, first, &mut memory[..count]))
+    }
+
+    /// How many runs there are, at most 2 to the power of 32: each defining word halves their number.
+    pub fn run_count(&self) -> u64
+        ensures count { result ≡ length (runs_of self.now) }
+        ensures few { result ≤ 2 ^ 32 }
+    {
+        let defining = self.list(Side::Defining).len() as u8;
+        1 << self.factors().saturating_sub(defining)
     }
 
     // The block number of a run under a list of words.

@@ -1,12 +1,12 @@
 // A plan once it is settled: it tells what it holds, and does not change.
-ghost use Rattle.std.specs.Prelude.{◌≡◌, ◌+◌, ◌≤◌, length, Ok};
+ghost use Rattle.std.specs.Prelude.{◌≡◌, ◌+◌, ◌≤◌, ◌==◌, if◌then◌else◌, length, Ok, Some, None};
 ghost use Rattle.contents.specs.Content.{Kept, side_of, word_at};
 ghost use Rattle.planfile.specs.File.{file_of, read_file};
 ghost use Rattle.contents.specs.Memory.{holding, wrote};
 
 use crate::open::OpenPlan;
 use contents::{PlanContent, Refusal, Side, store};
-use levels::Levels;
+use levels::{Levels, TwoLevels};
 use std::marker::{Model, PhantomData};
 
 // It has the fields of an open plan, and a type of its own: only a settled plan answers, and only an open one changes. One type with a
@@ -39,6 +39,19 @@ impl<L: Levels> SettledPlan<L> {
             levels: PhantomData,
             held: self.held,
         }
+    }
+
+    /// The plan as one of two levels; absent with other levels.
+    pub fn two_levels(&self) -> Option<SettledPlan<TwoLevels>>
+        ensures { result ≡ (if L.model.s == 2 then Some self.now else None) }
+    {
+        if L::LEVELS != 2 {
+            return None;
+        }
+        Some(SettledPlan {
+            levels: PhantomData,
+            held: self.held,
+        })
     }
 
     // The number of factors, from 1 to 32.

@@ -1,12 +1,15 @@
 -- Every arithmetic of two levels that keeps its laws is that of two levels.
 use Rattle.std.specs.List.{AllByRecursion}
-use Rattle.std.proofs.Common.{◌≡◌, ℕ, zero, suc, ◌<◌, cond, ◌&&◌, eqb, ltb, List, [], ◌∷◌, map, sym, refl, ap, ◌∙◌, subst, inl, inr, arith}
+use Rattle.std.proofs.Common.{◌≡◌, ℕ, zero, suc, ◌<◌, cond, ◌&&◌, eqb, ltb, List, [], ◌∷◌, length, get_or, map, sym, refl, ap, ◌∙◌, subst, inl, inr, arith}
 use Rattle.std.proofs.lemmas.Bool.{cases_lt, cond-true, eq-eqb}
 use Rattle.levels.specs.Arithmetic.{Arithmetic, Field, Lawful, two, plus_modulo, times_modulo}
 use Rattle.levels.specs.Words.{digits, code, legal, zip_with, word_sum, word_multiple}
-use Rattle.levels.specs.Generated.{combination, Generates, SameWords}
+use Rattle.levels.specs.Generated.{combination, Generates, Independent, SameWords, others}
+use Rattle.levels.specs.Space.{AllWords}
 use Rattle.levels.proofs.Digits.{digits_fit}
 use Rattle.levels.proofs.Generation.{multiple_no_level}
+use Rattle.contents.specs.Content.{Content, Kept, both}
+use Rattle.contents.proofs.Membership.{limit_small}
 
 -- a digit below 2 is 0 or 1
 zero_or_one : (P : ℕ → Type 0) → P 0 → P 1 → (a : ℕ) → a < 2 → P a
@@ -120,3 +123,27 @@ module _ (A : Arithmetic) (L : Lawful A) (e : A.s ≡ 2) where
     (λ g. generates_two n vs w ((same w).0 (generates_from_two n us w g))),
     (λ g. generates_two n us w ((same w).1 (generates_from_two n vs w g))),
   )
+
+  -- a code is legal if it is with two levels
+  legal_two : (n w : ℕ) → legal A n w ≡ legal two n w
+  legal_two n w =
+      subst (λ b. legal (record { s = A.s; bits = b; limit = A.limit; plus = A.plus; times = A.times }) n w ≡ legal two n w) (sym one_bit)
+      (subst (λ s. legal (record { s = s; bits = 1; limit = A.limit; plus = A.plus; times = A.times }) n w ≡ legal two n w) (sym e) refl)
+
+  -- words are words of two levels
+  pub all_words_two : (n : ℕ) (ws : List ℕ) → AllWords A n ws → AllWords two n ws
+  all_words_two n ws h i l = sym (legal_two n (get_or ws i 0)) ∙ h i l
+
+  -- independent lists are independent with two levels
+  pub independent_two : (n : ℕ) (ws : List ℕ) → Independent A n ws → Independent two n ws
+  independent_two n ws h i l g = h i l (generates_from_two n (others ws i) (get_or ws i 0) g)
+
+-- what a plan of two levels keeps it keeps under the arithmetic of two levels
+pub kept_two : (A : Arithmetic) → Lawful A → A.s ≡ 2 → (p : Content) → Kept A p → Kept two p
+kept_two A L e p k = record {
+  low = k.low;
+  high = k.high;
+  few = omega (arith, k.few, limit_small A L);
+  words = all_words_two A L e p.factors (both p) k.words;
+  independent = independent_two A L e p.factors (both p) k.independent;
+}
