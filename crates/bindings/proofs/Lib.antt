@@ -1,3 +1,2 @@
 mod Acted
-mod Written
 mod Paged

@@ -4,13 +4,13 @@ use Rattle.levels.specs.Arithmetic.{Arithmetic}
 use Rattle.contents.specs.declared.refusal.Refusal.{Refusal}
 use Rattle.contents.specs.Content.{Content}
 use Rattle.page.specs.Page.{page}
-use Rattle.history.specs.Law.{Paged}
+use Rattle.history.specs.Files.{IsPaged}
 use Rattle.bindings.specs.Asked.{left, told}
 
-pub paged_answer : (A : Arithmetic) (o : Result Content Refusal) (before now : List ℕ) (r : Result ℕ Refusal) → Paged A o before now r → r ≡ told o (page A) before
+pub paged_answer : (A : Arithmetic) (o : Result Content Refusal) (before now : List ℕ) (r : Result ℕ Refusal) → IsPaged A o before now r → r ≡ told o (page A) before
 paged_answer A (Ok p) before now r h = h.0
 paged_answer A (Err e) before now r h = h.0
 
-pub paged_left : (A : Arithmetic) (o : Result Content Refusal) (before now : List ℕ) (r : Result ℕ Refusal) → Paged A o before now r → now ≡ left o (page A) before
+pub paged_left : (A : Arithmetic) (o : Result Content Refusal) (before now : List ℕ) (r : Result ℕ Refusal) → IsPaged A o before now r → now ≡ left o (page A) before
 paged_left A (Ok p) before now r h = h.1
 paged_left A (Err e) before now r h = h.1

@@ -1,5 +1,4 @@
 pub mod Asked
-pub mod Filled
 pub mod Numbers
 pub mod Outcomes
 pub mod Questions

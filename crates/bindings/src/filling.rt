@@ -1,9 +1,10 @@
-// Aliases and runs, as many as the memory takes.
+// Alias sets, and so many runs from a place on.
 ghost use Rattle.std.specs.Prelude.{◌≡◌};
 ghost use Rattle.levels.specs.Arithmetic.{two};
+ghost use Rattle.contents.specs.Memory.{holding_ok, wrote_ok};
+ghost use Rattle.plan.specs.Answers.{alias_set_of, runs_from};
 ghost use Rattle.planfile.specs.File.{read_file};
 ghost use Rattle.bindings.specs.Asked.{asked};
-ghost use Rattle.bindings.specs.Filled.{aliases_of, fill_count, fill_left, runs_at};
 ghost use Rattle.bindings.specs.Numbers.{levels_by};
 ghost use Rattle.bindings.specs.Outcomes.{outcome_of};
 
@@ -12,41 +13,49 @@ use crate::outcome::Outcome;
 use contents::Refusal;
 use levels::{Levels, TwoLevels};
 
-// No call gives more runs.
-const MOST: usize = 65_536;
-
-// The aliases of a legal word, in ascending code. Like the questions of questions.rt: one line, with its contract at any levels.
-fn aliases<L: Levels>(file: &[u8], word: u64, memory: &mut [u64]) -> Result<usize, Refusal>
-    ensures count { result ≡ fill_count (asked (read_file L.Levels.model file.now) (aliases_of L.Levels.model word)) memory.old }
-    ensures stored { memory.new ≡ fill_left (asked (read_file L.Levels.model file.now) (aliases_of L.Levels.model word)) memory.old }
+// The alias set of a legal word, in ascending code. Like the questions of questions.rt: one line, with its contract at any levels.
+fn alias_set<L: Levels>(file: &[u8], word: u64, memory: &mut [u64]) -> Result<usize, Refusal>
+    ensures count { let set = asked (read_file L.model file.now) (alias_set_of L.model word) in
+        result ≡ wrote_ok set memory.old }
+    ensures stored { let set = asked (read_file L.model file.now) (alias_set_of L.model word) in
+        memory.new ≡ holding_ok set memory.old }
 {
-    settle::<L>(file)?.aliases(word, memory)
+    settle::<L>(file)?.alias_set(word, memory)
 }
 
-// The runs from a place on, in ascending code.
-fn runs(file: &[u8], first: u32, memory: &mut [u64]) -> Result<usize, Refusal>
-    ensures count { result ≡ fill_count (asked (read_file two file.now) (runs_at first)) memory.old }
-    ensures stored { memory.new ≡ fill_left (asked (read_file two file.now) (runs_at first)) memory.old }
+// So many runs from a place on, in ascending code.
+fn runs(file: &[u8], first: u64, count: usize, memory: &mut [u64]) -> Result<usize, Refusal>
+    ensures count { let runs = asked (read_file two file.now) (runs_from first count) in
+        result ≡ wrote_ok runs memory.old }
+    ensures stored { let runs = asked (read_file two file.now) (runs_from first count) in
+        memory.new ≡ holding_ok runs memory.old }
 {
-    let plan = settle::<TwoLevels>(file)?;
-    let most = memory.len().min(MOST);
-    Ok(plan.runs(u64::from(first), &mut memory[..most]))
+    settle::<TwoLevels>(file)?.runs(first, count, memory)
 }
 
-// Writes the alias set of a word into memory, as much as there is room for; the value is how many words are written.
+/// Writes the alias set of a word into memory; the value is how many words it has.
 #[unsafe(no_mangle)]
 pub extern "C" fn zorilla_aliases(levels: u8, file: &[u8], word: u64, memory: &mut [u64]) -> Outcome
-    ensures answer { result ≡ outcome_of (fill_count (asked (read_file (levels_by levels) file.now) (aliases_of (levels_by levels) word)) memory.old) }
-    ensures stored { memory.new ≡ fill_left (asked (read_file (levels_by levels) file.now) (aliases_of (levels_by levels) word)) memory.old }
+    ensures answer { let A = levels_by levels in
+        result ≡ outcome_of (wrote_ok (asked (read_file A file.now) (alias_set_of A word)) memory.old) }
+    ensures stored { let A = levels_by levels in
+        memory.new ≡ holding_ok (asked (read_file A file.now) (alias_set_of A word)) memory.old }
 {
-    by_levels!(levels, aliases(file, word, memory)).into()
+    by_levels!(levels, alias_set(file, word, memory)).into()
 }
 
-// Writes the runs from a place on into memory, at most 65,536 and as many as there is room for; the value is how many.
+/// Writes so many runs from a place on into memory; the value is how many they are.
 #[unsafe(no_mangle)]
-pub extern "C" fn zorilla_runs(file: &[u8], first: u32, memory: &mut [u64]) -> Outcome
-    ensures answer { result ≡ outcome_of (fill_count (asked (read_file two file.now) (runs_at first)) memory.old) }
-    ensures stored { memory.new ≡ fill_left (asked (read_file two file.now) (runs_at first)) memory.old }
+pub extern "C" fn zorilla_runs(
+    file: &[u8],
+    first: u64,
+    count: usize,
+    memory: &mut [u64],
+) -> Outcome
+    ensures answer { let runs = asked (read_file two file.now) (runs_from first count) in
+        result ≡ outcome_of (wrote_ok runs memory.old) }
+    ensures stored { let runs = asked (read_file two file.now) (runs_from first count) in
+        memory.new ≡ holding_ok runs memory.old }
 {
-    runs(file, first, memory).into()
+    runs(file, first, count, memory).into()
 }

@@ -2,7 +2,7 @@
 ghost use Rattle.std.specs.Prelude.{◌≡◌};
 ghost use Rattle.planfile.specs.File.{read_file};
 ghost use Rattle.page.specs.Page.{page as printed};
-ghost use Rattle.history.specs.Law.{levels_of};
+ghost use Rattle.history.specs.Files.{levels_of};
 ghost use Rattle.bindings.specs.Asked.{left, told};
 ghost use Rattle.bindings.specs.Outcomes.{outcome_of};
 

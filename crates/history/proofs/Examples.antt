@@ -1,10 +1,11 @@
 -- The reference plans compute.
-use Rattle.std.proofs.Common.{◌≡◌, ℕ, ◌+◌, T, ltb, List, [], ◌∷◌, ◌++◌, codes, decimal, refl, ◌∙◌, lit<}
+use Rattle.std.proofs.Common.{◌≡◌, ℕ, ◌+◌, T, ltb, List, [], ◌∷◌, ◌++◌, codes, decimal, refl, ap, ◌∙◌, lit<}
 use Rattle.std.proofs.lemmas.Fmt.{decimal_digit}
 use Rattle.levels.specs.Arithmetic.{two}
 use Rattle.page.specs.Page.{fields, line, page}
 use Rattle.levels.specs.Words.{word_length}
-use Rattle.history.specs.Reference.{ReferencePlans, eight}
+use Rattle.history.specs.Questions.{in_bytes}
+use Rattle.history.specs.Reference.{ReferencePlans, eight, printed}
 
 -- a number below ten is one digit
 one : (n : ℕ) → T (ltb n 10) → decimal n ≡ (48 + n) ∷ []
@@ -25,26 +26,26 @@ printed_lines = refl
 in_digits : (defining blocks : List ℕ) → lines decimal defining blocks ≡ lines (λ n. (48 + n) ∷ []) defining blocks
 in_digits defining blocks = simp (one 0 tt, one 2 tt, one 3 tt, one 4 tt, one 5 tt, one 8 tt)
 
+page_of_eight : page two eight ≡ printed
+page_of_eight = printed_lines ∙ in_digits (line (codes "defining ABCF ABDG ACEH") []) (line (codes "blocks AD BD CD") [])
+
 pub reference_plans : ReferencePlans
 unfolding word_length
 reference_plans = record {
-  longest_blocks = refl;
-  least_aberration_blocks = refl;
-  printed = printed_lines ∙ in_digits (line (codes "defining ABCF ABDG ACEH") []) (line (codes "blocks AD BD CD") []);
-  aliases_of_six = refl;
-  no_ninth_alias = refl;
-  cheapest_blocks = refl;
-  cheapest_scores = refl;
-  three_level_pattern = refl;
-  three_level_shortest = refl;
-  four_runs = refl;
-  no_fifth_run = refl;
-  code_0_is_generated = refl;
-  a_word_twice_is_generated = refl;
-  six_factors_take_63 = refl;
-  six_factors_refuse_64 = refl;
-  one_factor_takes_2 = refl;
-  one_factor_refuses_3 = refl;
-  one_factor_refuses_4 = refl;
+  eight_is_left = refl;
+  longest_blocks = λ m. refl;
+  least_aberration_blocks = λ m. refl;
+  page_of_eight = λ m. ap (λ bytes. in_bytes bytes m) page_of_eight;
+  alias_set_of_six = λ m. refl;
+  members_of_six = refl;
+  cheapest_blocks = λ m. refl;
+  three_level_pattern = λ m. refl;
+  three_level_shortest = λ m. refl;
+  runs_of_three = refl;
+  two_runs_of_three = λ m. refl;
+  known_words = refl;
+  six_factors = refl;
+  one_factor_of_three_levels = refl;
+  starts = refl;
   three_level_sum = refl;
 }

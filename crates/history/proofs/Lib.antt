@@ -1,4 +1,5 @@
 pub mod Alike
+pub mod Changed
 pub mod Examples
 pub mod Filed
 pub mod Kept

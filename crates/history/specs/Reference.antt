@@ -1,47 +1,105 @@
--- Reference plans: what the definitions give on small plans that were worked out by hand or in print.
-use Rattle.std.specs.Prelude.{◌≡◌, ℕ, ◌^◌, List, [], ◌∷◌, ◌++◌, Ok, Err, codes}
-use Rattle.levels.specs.Arithmetic.{two, three}
+-- Reference plans: what calls answer on small plans that were worked out by hand or in print.
+use Rattle.std.specs.Prelude.{◌≡◌, ℕ, List, [], ◌∷◌, ◌++◌, map, Some, None, Ok, Err, Result, codes}
+use Rattle.levels.specs.Arithmetic.{Arithmetic, two, three}
 use Rattle.levels.specs.Words.{word_sum}
-use Rattle.levels.specs.Alias.{alias_set}
-use Rattle.levels.specs.Generated.{generated}
 use Rattle.preferences.specs.Built.{shortest, cheapest, cost_score, least_aberration, reversed}
-use Rattle.aliasing.specs.Pattern.{pattern}
-use Rattle.aliasing.specs.Runs.{runs_upto}
-use Rattle.contents.specs.declared.refusal.Refusal.TheVariants.{Illegal, Generated, Last}
+use Rattle.contents.specs.declared.refusal.Refusal.{Refusal}
 use Rattle.contents.specs.declared.side.Side.TheVariants.{Defining, Block}
-use Rattle.contents.specs.Content.{Content, admitted, blank}
-use Rattle.plan.specs.Answers.{alias_member, chosen, chosen_scores, run_of}
-use Rattle.page.specs.Page.{page, line}
+use Rattle.contents.specs.Refusals.{number_of}
+use Rattle.contents.specs.Content.{Content}
+use Rattle.page.specs.Page.{line}
+use Rattle.history.specs.declared.call.Call.TheVariants.{Start, Admit, Strike, Settle, Ask}
+use Rattle.history.specs.declared.question.Question.TheVariants.{Generators, ScoredGenerators, Pattern, AliasMember, AliasSet, Page, Run, Runs}
+use Rattle.history.specs.declared.question.Reply.{Reply}
+use Rattle.history.specs.declared.question.Reply.TheVariants.{Changed, Factors, Counts, Code, Written, Resolution, Block as BlockNumber}
+use Rattle.history.specs.Lent.{Lent}
+use Rattle.history.specs.Questions.{answer, in_bytes, in_counts, in_words, in_words_and_counts}
+use Rattle.history.specs.Calls.{StatedCall, answers, new, plan_after, settled_state}
 
 -- a content of n factors
 abbrev pub of_factors : ℕ → List ℕ → List ℕ → Content
 of_factors n ds bs = record { factors = n; defining = ds; block = bs }
 
+-- no memory
+abbrev pub nothing_lent : Lent
+nothing_lent = record { bytes = []; counts = []; words = [] }
+
+-- the number that a call returned, 0 where it only acted, or the number of its refusal
+abbrev pub number_or_refusal : Result ℕ Refusal → Result ℕ ℕ
+number_or_refusal (Ok x) = Ok x
+number_or_refusal (Err e) = Err (number_of e)
+
+abbrev pub number_in : Reply → Result ℕ ℕ
+number_in (Changed (Ok u)) = Ok 0
+number_in (Changed (Err e)) = Err (number_of e)
+number_in (Factors n) = Ok n
+number_in (Counts d b) = Ok d
+number_in (Code r) = number_or_refusal r
+number_in (Written r) = number_or_refusal r
+number_in (Resolution None) = Ok 0
+number_in (Resolution (Some r)) = Ok r.0
+number_in (BlockNumber r) = number_or_refusal r
+
+-- what calls on a new plan return, without memory
+abbrev pub numbers : Arithmetic → List StatedCall → List (Result ℕ ℕ)
+numbers A calls = map (λ a. number_in a.0) (answers A calls new nothing_lent)
+
 -- eight factors, with three defining and three block words
 abbrev pub eight : Content
 eight = of_factors 8 (39 ∷ 75 ∷ 149 ∷ []) (5 ∷ 6 ∷ 9 ∷ [])
+
+abbrev pub eight_calls : List StatedCall
+eight_calls =
+    Start 8 ∷ Admit Defining 39 ∷ Admit Defining 75 ∷ Admit Defining 149
+    ∷ Admit Block 5 ∷ Admit Block 6 ∷ Admit Block 9 ∷ Settle ∷ []
+
+-- six factors with four block words, three with two, and four of three levels with two defining words
+abbrev pub six : Content
+six = of_factors 6 [] (3 ∷ 12 ∷ 21 ∷ 37 ∷ [])
+
+abbrev pub costly : Content
+costly = of_factors 3 [] (3 ∷ 5 ∷ [])
+
+abbrev pub four : Content
+four = of_factors 4 (21 ∷ 73 ∷ []) []
 
 -- the costs 1, 5, 1 of three factors
 abbrev pub costs : List ℕ
 costs = 1 ∷ 5 ∷ 1 ∷ []
 
+-- the page of the eight factors
+abbrev pub printed : List ℕ
+printed =
+    line (codes "plan 2 8 3 3") [] ++ line (codes "resolution 4 5") [] ++ line (codes "pattern 0 0 0 5 0 2 0 0") []
+    ++ line (codes "defining ABCF ABDG ACEH") [] ++ line (codes "blocks AD BD CD") [] ++ line (codes "clear 4") []
+
 pub record ReferencePlans : Type 0 where
-  pub longest_blocks : chosen two (reversed (shortest two)) Block (of_factors 6 [] (3 ∷ 12 ∷ 21 ∷ 37 ∷ [])) ≡ 63 ∷ 15 ∷ 51 ∷ 21 ∷ []
-  pub least_aberration_blocks : chosen two (least_aberration two) Block eight ≡ 9 ∷ 10 ∷ 12 ∷ []
-  pub printed : page two eight ≡ line (codes "plan 2 8 3 3") [] ++ line (codes "resolution 4 5") [] ++ line (codes "pattern 0 0 0 5 0 2 0 0") [] ++ line (codes "defining ABCF ABDG ACEH") [] ++ line (codes "blocks AD BD CD") [] ++ line (codes "clear 4") []
-  pub aliases_of_six : alias_set two 8 (39 ∷ 75 ∷ 149 ∷ []) 6 ≡ 6 ∷ 33 ∷ 77 ∷ 106 ∷ 147 ∷ 180 ∷ 216 ∷ 255 ∷ []
-  pub no_ninth_alias : alias_member two 6 8 eight ≡ Err Last
-  pub cheapest_blocks : chosen two (cheapest two costs) Block (of_factors 3 [] (3 ∷ 5 ∷ [])) ≡ 5 ∷ 3 ∷ []
-  pub cheapest_scores : chosen_scores two (cheapest two costs) (cost_score two costs) Block (of_factors 3 [] (3 ∷ 5 ∷ [])) ≡ 2 ∷ 6 ∷ []
-  pub three_level_pattern : pattern three 4 (generated three 4 (21 ∷ 73 ∷ [])) ≡ 0 ∷ 0 ∷ 4 ∷ 0 ∷ []
-  pub three_level_shortest : chosen three (shortest three) Defining (of_factors 4 (21 ∷ 73 ∷ []) []) ≡ 21 ∷ 73 ∷ []
-  pub four_runs : runs_upto 3 (generated two 3 (7 ∷ [])) (2 ^ 3) ≡ 0 ∷ 3 ∷ 5 ∷ 6 ∷ []
-  pub no_fifth_run : run_of 4 (of_factors 3 (7 ∷ []) []) ≡ Err Last
-  pub code_0_is_generated : admitted two Defining 0 (blank 6) ≡ Err Generated
-  pub a_word_twice_is_generated : admitted two Block 5 (of_factors 6 (5 ∷ []) []) ≡ Err Generated
-  pub six_factors_take_63 : admitted two Defining 63 (blank 6) ≡ Ok (of_factors 6 (63 ∷ []) [])
-  pub six_factors_refuse_64 : admitted two Defining 64 (blank 6) ≡ Err Illegal
-  pub one_factor_takes_2 : admitted three Defining 2 (blank 1) ≡ Ok (of_factors 1 (2 ∷ []) [])
-  pub one_factor_refuses_3 : admitted three Defining 3 (blank 1) ≡ Err Illegal
-  pub one_factor_refuses_4 : admitted three Defining 4 (blank 1) ≡ Err Illegal
+  pub eight_is_left : plan_after two eight_calls new ≡ Some (settled_state eight)
+  pub longest_blocks : (m : Lent) →
+      answer two (Generators Block (reversed (shortest two))) six m ≡ in_words (63 ∷ 15 ∷ 51 ∷ 21 ∷ []) m
+  pub least_aberration_blocks : (m : Lent) →
+      answer two (Generators Block (least_aberration two)) eight m ≡ in_words (9 ∷ 10 ∷ 12 ∷ []) m
+  pub page_of_eight : (m : Lent) → answer two Page eight m ≡ in_bytes printed m
+  pub alias_set_of_six : (m : Lent) →
+      answer two (AliasSet 6) eight m ≡ in_words (6 ∷ 33 ∷ 77 ∷ 106 ∷ 147 ∷ 180 ∷ 216 ∷ 255 ∷ []) m
+  pub members_of_six :
+      map (λ k. number_in (answer two (AliasMember 6 k) eight nothing_lent).0) (0 ∷ 1 ∷ 2 ∷ 3 ∷ 4 ∷ 5 ∷ 6 ∷ 7 ∷ 8 ∷ [])
+      ≡ Ok 6 ∷ Ok 33 ∷ Ok 77 ∷ Ok 106 ∷ Ok 147 ∷ Ok 180 ∷ Ok 216 ∷ Ok 255 ∷ Err 12 ∷ []
+  pub cheapest_blocks : (m : Lent) →
+      answer two (ScoredGenerators Block (record { good = cheapest two costs; points = cost_score two costs })) costly m
+      ≡ in_words_and_counts (5 ∷ 3 ∷ []) (2 ∷ 6 ∷ []) m
+  pub three_level_pattern : (m : Lent) → answer three Pattern four m ≡ in_counts (0 ∷ 0 ∷ 4 ∷ 0 ∷ []) m
+  pub three_level_shortest : (m : Lent) →
+      answer three (Generators Defining (shortest three)) four m ≡ in_words (21 ∷ 73 ∷ []) m
+  pub runs_of_three :
+      numbers two (Start 3 ∷ Admit Defining 7 ∷ Settle ∷ Ask (Run 0) ∷ Ask (Run 1) ∷ Ask (Run 2) ∷ Ask (Run 3) ∷ Ask (Run 4) ∷ [])
+      ≡ Ok 0 ∷ Ok 0 ∷ Ok 0 ∷ Ok 0 ∷ Ok 3 ∷ Ok 5 ∷ Ok 6 ∷ Err 12 ∷ []
+  pub two_runs_of_three : (m : Lent) → answer two (Runs 1 2) (of_factors 3 (7 ∷ []) []) m ≡ in_words (3 ∷ 5 ∷ []) m
+  pub known_words :
+      numbers two (Start 6 ∷ Admit Defining 0 ∷ Admit Defining 5 ∷ Admit Block 5 ∷ Strike Defining 2 ∷ [])
+      ≡ Ok 0 ∷ Err 3 ∷ Ok 0 ∷ Err 3 ∷ Err 5 ∷ []
+  pub six_factors : numbers two (Start 6 ∷ Admit Defining 63 ∷ Admit Defining 64 ∷ []) ≡ Ok 0 ∷ Ok 0 ∷ Err 2 ∷ []
+  pub one_factor_of_three_levels :
+      numbers three (Start 1 ∷ Admit Defining 3 ∷ Admit Defining 4 ∷ Admit Defining 2 ∷ []) ≡ Ok 0 ∷ Err 2 ∷ Err 2 ∷ Ok 0 ∷ []
+  pub starts : numbers two (Start 0 ∷ Start 33 ∷ Start 32 ∷ []) ≡ Err 1 ∷ Err 1 ∷ Ok 0 ∷ []
   pub three_level_sum : word_sum three 4 21 73 ≡ 82

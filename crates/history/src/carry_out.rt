@@ -83,6 +83,7 @@ fn step<L: Levels, P: Preference<L>, S: Scored<L>>(
 }
 
 // One call on an open plan.
+#[tactic(auto, using(crate::proofs::Changed::changed_reply))]
 fn step_open<L: Levels, P: Preference<L>, S: Scored<L>>(
     mut plan: OpenPlan<L>,
     call: &Call<&[u8], Question<P, S, &[u64]>>,

@@ -1,7 +1,7 @@
-// Plans that were worked out by hand or in print, as facts about the definitions.
+// Plans that were worked out by hand or in print, as facts about what calls answer.
 ghost use Rattle.history.specs.Reference.{ReferencePlans};
 
-// The reference plans give what they should.
+/// Calls on the reference plans answer what they should.
 pub fn reference_plans()
     ensures { ReferencePlans }
 {}

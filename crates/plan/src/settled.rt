@@ -48,9 +48,10 @@ impl<L: Levels> SettledPlan<L> {
         if L::LEVELS != 2 {
             return None;
         }
+        let held = self.held;
         Some(SettledPlan {
             levels: PhantomData,
-            held: self.held,
+            held,
         })
     }
 

@@ -7,6 +7,7 @@ use std::io;
 use std::io::Write;
 
 mod calls;
+mod lists;
 mod verdicts;
 
 // A plan file, and what it holds.
@@ -158,5 +159,6 @@ fn main(rt: HostRuntime) -> io::Result<()> {
     three_factors(&rt)?;
     aliases(&rt)?;
     generators(&rt)?;
+    lists::lists(&rt)?;
     verdicts::verdicts(&rt)
 }
