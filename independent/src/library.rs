@@ -32,7 +32,7 @@ extern "C" {
     fn zorilla_resolution_count(levels: u8, file: *const u8, bytes: usize) -> Outcome;
     fn zorilla_alias_member(levels: u8, file: *const u8, bytes: usize, word: u64, m: u64) -> Outcome;
     fn zorilla_aliases(levels: u8, file: *const u8, bytes: usize, word: u64, memory: *mut u64, room: usize) -> Outcome;
-    fn zorilla_runs(file: *const u8, bytes: usize, first: u32, memory: *mut u64, room: usize) -> Outcome;
+    fn zorilla_runs(file: *const u8, bytes: usize, first: u64, count: usize, memory: *mut u64, room: usize) -> Outcome;
     fn zorilla_clear(file: *const u8, bytes: usize, memory: *mut u8, room: usize) -> Outcome;
     fn zorilla_run(file: *const u8, bytes: usize, m: u64) -> Outcome;
     fn zorilla_block_number(file: *const u8, bytes: usize, run: u64, words: *const u64, count: usize) -> Outcome;
@@ -129,6 +129,6 @@ pub fn aliases(levels: u8, file: &[u8], word: u64, memory: &mut [u64]) -> Answer
     answer(unsafe { zorilla_aliases(levels, file.as_ptr(), file.len(), word, memory.as_mut_ptr(), memory.len()) })
 }
 
-pub fn runs(file: &[u8], first: u32, memory: &mut [u64]) -> Answer {
-    answer(unsafe { zorilla_runs(file.as_ptr(), file.len(), first, memory.as_mut_ptr(), memory.len()) })
+pub fn runs(file: &[u8], first: u64, count: usize, memory: &mut [u64]) -> Answer {
+    answer(unsafe { zorilla_runs(file.as_ptr(), file.len(), first, count, memory.as_mut_ptr(), memory.len()) })
 }

@@ -332,6 +332,20 @@ impl Plan {
         Ok(run)
     }
 
+    /// How many runs there are.
+    pub fn run_count(&self) -> u64 {
+        (1 << self.n) / self.defined.len() as u64
+    }
+
+    /// So many runs from a place on.
+    pub fn runs(&self, first: u64, count: usize) -> Result<Vec<u64>, u32> {
+        let end = u128::from(first) + count as u128;
+        if u128::from(self.run_count()) < end {
+            return Err(LAST);
+        }
+        (first..end as u64).map(|m| self.run(m)).collect()
+    }
+
     pub fn block_number(&self, run: u64, words: &[u64]) -> Result<u64, u32> {
         let run = digits(2, self.n, run).ok_or(ILLEGAL)?;
         if words.len() > 16 {
@@ -394,19 +408,7 @@ impl Plan {
     }
 
     fn shown(&self, codes: &[u64]) -> String {
-        let mut text = String::new();
-        for &code in codes {
-            text.push(' ');
-            for (i, digit) in digits(self.s, self.n, code).unwrap().into_iter().enumerate() {
-                let letter = b"ABCDEFGHIJKLMNOPQRSTUVWXYZabcdef"[i] as char;
-                match digit {
-                    0 => {}
-                    1 => text.push(letter),
-                    more => text.push_str(&format!("{letter}{more}")),
-                }
-            }
-        }
-        text
+        codes.iter().map(|&code| format!(" {}", letters(&digits(self.s, self.n, code).unwrap()))).collect()
     }
 
     pub fn page(&self) -> String {
@@ -429,6 +431,20 @@ impl Plan {
         }
         page
     }
+}
+
+/// The letters of a word: a digit above 1 stands behind its letter.
+pub fn letters(word: &Word) -> String {
+    let mut text = String::new();
+    for (i, &digit) in word.iter().enumerate() {
+        let letter = b"ABCDEFGHIJKLMNOPQRSTUVWXYZabcdef"[i] as char;
+        match digit {
+            0 => {}
+            1 => text.push(letter),
+            more => text.push_str(&format!("{letter}{more}")),
+        }
+    }
+    text
 }
 
 /// How many words of a list have each length, 0 to n.

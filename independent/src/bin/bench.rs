@@ -108,7 +108,7 @@ fn ours(case: &Case, item: &str) -> Option<Given> {
         "runs" if levels == 2 => {
             let mut memory = vec![0; RUNS_AT_ONCE * LISTS_OF_RUNS as usize];
             for (list, first) in memory.chunks_mut(RUNS_AT_ONCE).zip(firsts(case)) {
-                library::runs(file, first as u32, list).unwrap();
+                library::runs(file, first, list.len(), list).unwrap();
             }
             memory
         }

@@ -364,12 +364,8 @@ fn questions(t: &mut Tally, draw: &mut Draw, levels: u8, plan: &Result<Plan, u32
     }
 
     let room = lent(draw, t.dear, last as usize, |x| x);
-    let theirs = aliases.map(|mut set| {
-        set.truncate(room.len());
-        set
-    });
     let call = |memory: &mut [u64]| library::aliases(levels, &file, word, memory);
-    t.memory("aliases", || format!("aliases of {word}, levels {levels}"), &room, call, with_length(theirs));
+    t.memory("aliases", || format!("aliases of {word}, levels {levels}"), &room, call, with_length(aliases));
 }
 
 /// The questions of two levels, which read any file as one of two levels.
@@ -386,16 +382,18 @@ fn two_levels(t: &mut Tally, draw: &mut Draw) {
     });
     t.memory("clear", || "clear".into(), &room, |memory| library::clear(&file, memory), theirs);
 
-    let runs = plan.as_ref().map_or(1, |plan| (1u64 << plan.n) / plan.defined.len() as u64);
+    let runs = plan.as_ref().map_or(1, Plan::run_count);
     for m in [0, runs - 1, runs, draw.below(runs), draw.below(runs), runs + draw.below(100), draw.next()] {
         let theirs = plan.as_ref().map_err(|&e| e).and_then(|plan| plan.run(m));
         t.number("run", || format!("run {m}"), library::run(&file, m), theirs);
     }
 
-    let first = [0, draw.below(runs), runs.saturating_sub(draw.below(4)), draw.next()][draw.index(4)].min(u64::from(u32::MAX)) as u32;
-    let room = vec![7; draw.index(5)];
-    let theirs = plan.as_ref().map_err(|&e| e).map(|plan| (0..room.len() as u64).map_while(|i| plan.run(u64::from(first) + i).ok()).collect());
-    t.memory("runs", || format!("runs from {first}"), &room, |memory| library::runs(&file, first, memory), with_length(theirs));
+    let first = [0, draw.below(runs), runs.saturating_sub(draw.below(4)), draw.next()][draw.index(4)];
+    let count = if draw.once_in(20) { usize::MAX } else { draw.index(5) };
+    let theirs = plan.as_ref().map_err(|&e| e).and_then(|plan| plan.runs(first, count));
+    let room = lent(draw, t.dear, length_of(&theirs), |x| x);
+    let call = |memory: &mut [u64]| library::runs(&file, first, count, memory);
+    t.memory("runs", || format!("{count} runs from {first}"), &room, call, with_length(theirs));
 
     for _ in 0..3 {
         let run = some_code(draw, 2, n);
