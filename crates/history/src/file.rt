@@ -1,5 +1,5 @@
 // The trial page of a plan file.
-ghost use Rattle.std.specs.Prelude.{◌≡◌, take, IfOk, IfSome, OnErr};
+ghost use Rattle.std.specs.Prelude.{◌≡◌, ℕ, List, take, IfOk, IfSome, OnErr};
 ghost use Rattle.std.specs.Io.KnownBytes.{Consumes};
 ghost use Rattle.history.specs.Files.{IsPageOfFile, levels_of};
 
@@ -40,8 +40,11 @@ pub fn page_of_input<R: Read>(
     reader: &mut R,
     memory: &mut [u8],
 ) -> io::Result<Result<usize, Refusal>>
+    // Where the bytes of the input are known, the page is that of all of them; of any other, it is that of some file.
     ensures page { IfOk result (λ answer. IfSome (R.remaining reader.old) (λ input.
         IsPageOfFile (levels_of input) input memory.old memory.new answer)) }
+    ensures some_page { IfOk result (λ answer. (file : List ℕ)
+        × IsPageOfFile (levels_of file) file memory.old memory.new answer) }
     ensures no_more { IfOk result (λ _. IfSome (R.remaining reader.old) (λ input.
         Consumes (R.remaining reader.old) (R.remaining reader.new) (take ENOUGH input))) }
     ensures failed { OnErr result (memory.new ≡ memory.old) }

@@ -3,15 +3,15 @@ use Rattle.std.proofs.Common.{◌≡◌, ℕ, ◌+◌, ◌*◌, ◌<◌, ◌≤�
 use Rattle.std.proofs.lemmas.Bool.{cases_Bool, cases_lt, leb-true, lt-ltb, le-ltb, cond-true, cond-false}
 use Rattle.std.proofs.lemmas.List.{take_all, take-append-le, append-nil, append_assoc, length-append, length-take-le, length-drop}
 use Rattle.std.specs.Io.KnownBytes.{Consumes, IsAtEnd, Keeps, ReadConsumes}
-use Rattle.levels.specs.Arithmetic.{Arithmetic, Lawful}
+use Rattle.levels.specs.Arithmetic.{Arithmetic}
 use Rattle.contents.specs.declared.refusal.Refusal.{Refusal}
 use Rattle.contents.specs.declared.refusal.Refusal.TheVariants.{Factors, Limit, Surplus, Cut, Mark, Version, Levels}
 use Rattle.contents.specs.Content.{Content}
 use Rattle.contents.proofs.Membership.{limit_small}
-use Rattle.planfile.specs.File.{number, past_head, past_size, read_words, read_file, ReadsAlike}
+use Rattle.planfile.specs.File.{number, past_size, read_words, read_file, ReadsAlike}
 use Rattle.planfile.proofs.Files.{nine}
 
--- of more than 137 bytes only the number of words is checked
+-- a file of more than 137 bytes has too many words, or surplus bytes
 surplus : {X : Type 0} (A : Arithmetic) (words len : ℕ) (next : Result X Refusal) → A.limit ≤ 16 → 138 ≤ len → past_size A words len next ≡ cond (leb words A.limit) (Err Surplus) (Err Limit)
 surplus A words len next small long =
     let end = 9 + 8 * words in
@@ -25,7 +25,7 @@ surplus A words len next small long =
       | inr f ↦ cond-false (leb words A.limit) sized (Err Limit) f ∙ sym (cond-false (leb words A.limit) (Err Surplus) (Err Limit) f)
     ]
 
--- what is read of nine bytes and many more
+-- how a file of these nine bytes and 129 more, or further ones, is refused
 checks : Arithmetic → ℕ → ℕ → ℕ → ℕ → ℕ → ℕ → ℕ → ℕ → ℕ → Result Content Refusal
 checks A b₀ b₁ b₂ b₃ b₄ b₅ b₆ b₇ b₈ =
     cond (eqb b₀ 68 && (eqb b₁ 87 && eqb b₂ 70))
@@ -34,19 +34,20 @@ checks A b₀ b₁ b₂ b₃ b₄ b₅ b₆ b₇ b₈ =
     (cond (leb 1 b₆ && leb b₆ 32) (cond (leb (b₇ + b₈) A.limit) (Err Surplus) (Err Limit)) (Err Factors))
     (Err Levels)) (Err Version)) (Err Mark)
 
+-- whatever those further bytes are
 checked : (A : Arithmetic) (b₀ b₁ b₂ b₃ b₄ b₅ b₆ b₇ b₈ : ℕ) (bs : List ℕ) → A.limit ≤ 16 → 129 ≤ length bs → read_file A (b₀ ∷ b₁ ∷ b₂ ∷ b₃ ∷ b₄ ∷ b₅ ∷ b₆ ∷ b₇ ∷ b₈ ∷ bs) ≡ checks A b₀ b₁ b₂ b₃ b₄ b₅ b₆ b₇ b₈
 unfolding checks
 checked A b₀ b₁ b₂ b₃ b₄ b₅ b₆ b₇ b₈ bs small long =
     let f : List ℕ = b₀ ∷ b₁ ∷ b₂ ∷ b₃ ∷ b₄ ∷ b₅ ∷ b₆ ∷ b₇ ∷ b₈ ∷ bs in
     let rest : Result Content Refusal → Result Content Refusal = λ r.
-        cond (eqb b₀ 68 && (eqb b₁ 87 && eqb b₂ 70))
-        (cond (eqb (number (b₃ ∷ b₄ ∷ [])) 1)
-        (cond (eqb b₅ A.s) (cond (leb 1 b₆ && leb b₆ 32) r (Err Factors)) (Err Levels)) (Err Version)) (Err Mark) in
+    cond (eqb b₀ 68 && (eqb b₁ 87 && eqb b₂ 70))
+    (cond (eqb (number (b₃ ∷ b₄ ∷ [])) 1)
+    (cond (eqb b₅ A.s) (cond (leb 1 b₆ && leb b₆ 32) r (Err Factors)) (Err Levels)) (Err Version)) (Err Mark) in
     let words = read_words A b₆ b₇ b₈ bs in
     cond-false (ltb (length f) 9) (Err Cut) (rest (past_size A (b₇ + b₈) (length f) words)) (le-ltb (length f) 9 (omega (arith, long)))
     ∙ ap rest (surplus A (b₇ + b₈) (length f) words small (omega (arith, long)))
 
--- more bytes than 137 are read alike if the first nine are the same
+-- the first 138 bytes of an input are read as all of it
 pub deciding : (input : List ℕ) → ReadsAlike (take 138 input) input
 deciding input A L = elim (cases_lt 138 (length input)) [
   | inl l ↦
@@ -78,7 +79,7 @@ ended (Some x) (Some y) bs h e l =
     let all : x ≡ bs = h ∙ ap (λ us. bs ++ us) e ∙ append-nil bs in
     sym (ap (take 138) all ∙ take_all 138 bs l)
 
--- the first 138 bytes of an input are read as all of it
+-- the same of an input that may be known
 pub first_decide : (a : Option (List ℕ)) (bs : List ℕ) → IfSome a (λ input. bs ≡ take 138 input) → IfSome a (ReadsAlike bs)
 first_decide None bs h = tt
 first_decide (Some x) bs h = subst (λ us. ReadsAlike us x) (sym h) (deciding x)
