@@ -13,7 +13,7 @@ pub mod trial;
 pub use best::best_generators_and_equal_answers;
 pub use call::Call;
 pub use carry_out::{Answer, Outcome};
-pub use file::trial_page;
+pub use file::{page_of_input, trial_page};
 pub use memory::Memory;
 pub use question::{Question, Reply};
 pub use trial::Trial;

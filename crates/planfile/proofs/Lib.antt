@@ -1,3 +1,4 @@
 pub mod Coding
+pub mod Deciding
 pub mod Files
 pub mod Roundtrip

@@ -1,6 +1,6 @@
 -- The plan file.
-use Rattle.std.specs.Prelude.{ℕ, zero, suc, ◌+◌, ◌*◌, ◌/◌, ◌%◌, cond, ◌&&◌, List, [], ◌∷◌, ◌++◌, length, take, drop, Ok, Err, Result, ◌==◌, nat_le, nat_lt, slice_index, slice_index_or}
-use Rattle.levels.specs.Arithmetic.{Arithmetic}
+use Rattle.std.specs.Prelude.{◌≡◌, ℕ, zero, suc, ◌+◌, ◌*◌, ◌/◌, ◌%◌, cond, ◌&&◌, List, [], ◌∷◌, ◌++◌, length, take, drop, Ok, Err, Result, ◌==◌, nat_le, nat_lt, slice_index, slice_index_or}
+use Rattle.levels.specs.Arithmetic.{Arithmetic, Lawful}
 use Rattle.contents.specs.declared.refusal.Refusal.{Refusal}
 use Rattle.contents.specs.declared.refusal.Refusal.TheVariants.{Factors, Limit, Cut, Mark, Version, Levels, Surplus}
 use Rattle.contents.specs.declared.side.Side.TheVariants.{Defining, Block}
@@ -63,3 +63,7 @@ read_file A f =
     let b = slice_index_or f 8 0 in
     past_head A f
     (cond (nat_le 1 n && nat_le n 32) (past_size A (d + b) (length f) (read_words A n d b (drop 9 f))) (Err Factors))
+
+-- two files hold the same plan, or are refused alike, whatever the levels
+abbrev pub ReadsAlike : List ℕ → List ℕ → Type 0
+ReadsAlike f g = (A : Arithmetic) → Lawful A → read_file A f ≡ read_file A g

@@ -2,10 +2,12 @@
 #![tactic(auto)]
 
 mod buffer;
+mod input;
 mod reading;
 mod writing;
 
 pub use buffer::{Buffer, LONGEST};
+pub use input::{ENOUGH, deciding_bytes};
 pub use reading::read;
 pub use writing::file;
 
