@@ -1,0 +1,28 @@
+// What a script can be wrong in.
+use std::alloc::AllocError;
+use thiserror::Error;
+
+/// Why a script is not carried out.
+#[derive(Debug, Drop, Error)]
+pub enum ScriptError<'a> {
+    #[error("line {line}: expected {expected}, found {found:?}")]
+    Unexpected {
+        line: usize,
+        expected: &'static str,
+        found: &'a str,
+    },
+    #[error("line {line}: expected {expected}, found the end of the line")]
+    Ended { line: usize, expected: &'static str },
+    #[error("line {line}: {file} is read, but an earlier line writes it")]
+    ReadsWritten { line: usize, file: &'a str },
+    #[error("out of memory")]
+    Memory(#[from(alloc)] AllocError),
+}
+
+/// A line asked for a call that there is not on the plan as it was.
+#[derive(Debug, Drop, Error)]
+#[error("line {line}: there is no such call on {plan}")]
+pub struct NoSuchCall {
+    pub line: usize,
+    pub plan: &'static str,
+}
