@@ -1,4 +1,5 @@
 // The lines of a script with what they were answered.
+use crate::error::NoSuchCall;
 use crate::request::Request;
 use crate::script::Line;
 use history::{Answer, Call, Reply};
@@ -53,18 +54,19 @@ fn split_factors(answers: &[Answer]) -> (u8, &[Answer]) {
     }
 }
 
-/// What the plan was at a line for whose call there is none, behind the lines before it.
-pub fn plan_at(line: &Line<'_>, before: &[Answered<'_>]) -> &'static str {
+/// Why there was no answer to a line, behind the lines before it.
+pub fn no_such_call(line: &Line<'_>, before: &[Answered<'_>]) -> NoSuchCall {
+    let number = line.number;
     match line.request {
-        Request::Call(Call::Reopen) => "an open plan",
+        Request::Call(Call::Reopen) => NoSuchCall::Open(number),
         Request::Call(Call::Ask(_)) | Request::Write(_) | Request::Clear => {
             if is_settled(before) {
-                "a plan of three levels"
+                NoSuchCall::ThreeLevels(number)
             } else {
-                "an open plan"
+                NoSuchCall::Open(number)
             }
         }
-        Request::Call(_) => "a settled plan",
+        Request::Call(_) => NoSuchCall::Settled(number),
     }
 }
 

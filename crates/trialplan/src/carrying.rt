@@ -1,6 +1,5 @@
 // A script is carried out on a new plan.
-use crate::answered::{Answered, plan_at, with_answers};
-use crate::error::NoSuchCall;
+use crate::answered::{Answered, no_such_call, with_answers};
 use crate::printing::{front, print_answer, print_memory};
 use crate::ranking::{Ranking, Score};
 use crate::request::{Request, Room};
@@ -9,13 +8,12 @@ use anyhow::{Context, Result};
 use history::{Call, Memory, Reply, best_generators_and_equal_answers};
 use levels::Levels;
 use std::alloc::{AllocError, Global};
-use std::fs;
 use std::fs::File;
-use std::io;
 use std::io::{Read, Write};
 use std::rt::Files;
+use std::{fs, io};
 
-// A plan file has at most 137 bytes, and a longer file is refused by its first 138.
+// A plan file has at most 137 bytes, and a longer file is refused whatever follows its first 138.
 const FRONT: u64 = 138;
 
 /// Carries out a script on a new plan, prints what it answered, and writes the files.
@@ -33,16 +31,15 @@ pub fn carry_out<L: Levels>(
         line.request.add_calls(file, &mut calls)?;
     }
     let mut memory = memory_of(alloc, script.room())?;
-    let outcome =
-        best_generators_and_equal_answers::<L, Ranking, Score>(alloc, &calls, &mut memory)?;
+    let outcome = best_generators_and_equal_answers::<L, Ranking, Score>(
+        alloc,
+        &calls,
+        &mut memory,
+    )?;
     let lines = with_answers(alloc, &script.lines, &outcome.answers)?;
     print(rt, &lines, shows_memory)?;
     if let Some(line) = script.lines.get(lines.len()) {
-        return Err(NoSuchCall {
-            line: line.number,
-            plan: plan_at(line, &lines),
-        }
-        .into());
+        return Err(no_such_call(line, &lines).into());
     }
     write_files(rt, &lines)
 }

@@ -1,4 +1,4 @@
-// What a script can be wrong in.
+// What can be wrong with a script.
 use std::alloc::AllocError;
 use thiserror::Error;
 
@@ -12,17 +12,26 @@ pub enum ScriptError<'a> {
         found: &'a str,
     },
     #[error("line {line}: expected {expected}, found the end of the line")]
-    Ended { line: usize, expected: &'static str },
+    Ended {
+        line: usize,
+        expected: &'static str,
+    },
     #[error("line {line}: {file} is read, but an earlier line writes it")]
-    ReadsWritten { line: usize, file: &'a str },
+    ReadsWritten {
+        line: usize,
+        file: &'a str,
+    },
     #[error("out of memory")]
     Memory(#[from(alloc)] AllocError),
 }
 
 /// A line asked for a call that there is not on the plan as it was.
 #[derive(Debug, Drop, Error)]
-#[error("line {line}: there is no such call on {plan}")]
-pub struct NoSuchCall {
-    pub line: usize,
-    pub plan: &'static str,
+pub enum NoSuchCall {
+    #[error("line {0}: there is no such call on an open plan")]
+    Open(usize),
+    #[error("line {0}: there is no such call on a settled plan")]
+    Settled(usize),
+    #[error("line {0}: there is no such call on a plan of three levels")]
+    ThreeLevels(usize),
 }

@@ -4,6 +4,7 @@
 use anyhow::{Context, Result};
 use carrying::carry_out;
 use clap::{Arg, ArgAction, Command};
+use language::LANGUAGE;
 use levels::{ThreeLevels, TwoLevels};
 use script::Script;
 use std::io;
@@ -13,6 +14,7 @@ use words::LevelCount;
 mod answered;
 mod carrying;
 mod error;
+mod language;
 mod lending;
 mod printing;
 mod ranking;
@@ -27,10 +29,10 @@ fn main(rt: HostRuntime) -> Result<ExitCode> {
     let memory = Arg::new(alloc, "memory")
         .long("memory")
         .action(ArgAction::SetTrue)
-        .help("After each answer, print what the memory holds that is lent");
+        .help("Print the memory that is lent after each answer");
     let command = Command::new(alloc, "trialplan")
         .about("Carries out a script on a new trial plan")
-        .after_help("later")
+        .after_help(LANGUAGE)
         .arg(memory)?;
     let matches = match command.try_get_matches_from(arguments.as_slice()) {
         Ok(matches) => matches,

@@ -1,4 +1,6 @@
 // What a plan answered, as text.
+ghost use Rattle.std.specs.Prelude.{◌≡◌, take};
+
 use crate::answered::Answered;
 use crate::request::{Asked, Request};
 use history::{Call, Memory, Question, Reply};
@@ -91,7 +93,9 @@ fn print_numbers<T: Display>(out: &mut Vec<u8>, numbers: &[T]) -> io::Result<()>
 }
 
 // The first items of a list, so many if there are.
-pub fn front<T: Copy>(items: &[T], count: usize) -> &[T] {
+pub fn front<T: Copy>(items: &[T], count: usize) -> &[T]
+    ensures { result.now ≡ take count items.now }
+{
     &items[..count.min(items.len())]
 }
 

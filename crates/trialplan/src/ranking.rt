@@ -1,5 +1,9 @@
 // The preferences that a script names.
-ghost use Rattle.trialplan.specs.Ranking.{one_good, one_laws, ranking_good, ranking_laws, rule_good, rule_laws, score_good, score_laws, score_points};
+ghost use Rattle.std.specs.Prelude.{◌≡◌, ℕ, List};
+ghost use Rattle.levels.specs.Arithmetic.{Arithmetic};
+ghost use Rattle.preferences.specs.Built.{reversed};
+ghost use Rattle.trialplan.specs.Ranking.{one_good, ranking_good, rule_good, score_good, score_points};
+ghost use Rattle.trialplan.specs.RankingLaws.{one_laws, ranking_laws, rule_laws, score_laws};
 
 use levels::{Levels, Span};
 use preferences::{
@@ -65,8 +69,10 @@ pub enum One {
 }
 
 impl One {
-    /// Turned round.
-    pub fn reversed(self) -> One {
+    /// The same, turned round.
+    pub fn turned(self) -> One
+        ensures { (A : Arithmetic) → one_good A result ≡ reversed (one_good A self) }
+    {
         match self {
             One::Plain(rule) => One::Reversed(Reversed(rule)),
             One::Reversed(Reversed(rule)) => One::Plain(rule),

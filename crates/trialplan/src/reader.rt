@@ -191,7 +191,7 @@ impl<'a> Reader<'a> {
     // A preference by one rule.
     fn one(&mut self) -> Result<One, ScriptError<'a>> {
         if self.takes("reversed") {
-            return Ok(self.rule()?.reversed());
+            return Ok(self.rule()?.turned());
         }
         self.rule()
     }
@@ -201,7 +201,7 @@ impl<'a> Reader<'a> {
         let expected = "a preference";
         match self.word(expected)? {
             "shortest" => Ok(One::Plain(Rule::Score(Score::Shortest))),
-            "longest" => Ok(One::Plain(Rule::Score(Score::Shortest)).reversed()),
+            "longest" => Ok(One::Plain(Rule::Score(Score::Shortest)).turned()),
             "cheapest" => Ok(One::Plain(Rule::Score(Score::Cheapest(self.cheapest()?)))),
             "least-aberration" => Ok(One::Plain(Rule::LeastAberration)),
             other => Err(self.unexpected(expected, other)),

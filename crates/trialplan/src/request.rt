@@ -73,9 +73,9 @@ impl<'a> Reader<'a> {
         match name {
             "write" => Ok(Request::Write(self.file()?)),
             "clear" => Ok(Request::Clear),
-            "start" => Ok(Request::Call(Call::Start(
-                self.number("a number of factors, at most 255")?,
-            ))),
+            "start" => Ok(Request::Call(Call::Start(self.number(
+                "a number of factors, at most 255",
+            )?))),
             "read" => Ok(Request::Call(Call::Read(self.file()?))),
             "admit" => Ok(Request::Call(Call::Admit(self.side()?, self.code()?))),
             "strike" => Ok(Request::Call(Call::Strike(self.side()?, self.place()?))),
@@ -114,5 +114,7 @@ impl<'a> Reader<'a> {
 
 // What is expected where a number should stand.
 const MEMBER: &str = "the number of a member, from 0";
+
 const RUN: &str = "the number of a run, from 0";
+
 const COUNT: &str = "how many runs";

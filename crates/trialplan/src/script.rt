@@ -94,7 +94,10 @@ impl<'a> Script<'a> {
     // A file that is read is written by no line so far.
     fn check_read(&self, line: &Line<'a>) -> Result<(), ScriptError<'a>> {
         if let Request::Call(Call::Read(file)) = &line.request
-            && self.lines.iter().any(|earlier| earlier.target() == Some(*file))
+            && self
+                .lines
+                .iter()
+                .any(|earlier| earlier.target() == Some(*file))
         {
             return Err(ScriptError::ReadsWritten {
                 line: line.number,
@@ -116,5 +119,60 @@ impl<'a> Script<'a> {
             counts: COUNTS,
             words: self.lines.iter().map(Line::words).fold(LIST, usize::max),
         })
+    }
+}
+
+#[cfg(test)]
+mod tests {
+    use super::*;
+    use std::test::Fail;
+
+    #[test]
+    fn tells_what_is_wrong(rt: HostRuntime) -> Result<(), Fail> {
+        for (text, message) in [
+            (
+                "\n# none\n strike block",
+                "line 3: expected a place, from 1, found the end of the line",
+            ),
+            (
+                "start 256",
+                "line 1: expected a number of factors, at most 255, found \"256\"",
+            ),
+            (
+                "settle now",
+                "line 1: expected the end of the line, found \"now\"",
+            ),
+            (
+                "start 8\nlevels 3",
+                "line 2: expected a call (`levels` stands first, `memory` before all calls), found \"levels\"",
+            ),
+            (
+                "write a\nread a",
+                "line 2: a is read, but an earlier line writes it",
+            ),
+        ] {
+            match Script::parse(rt.alloc(), text) {
+                Ok(_) => assert!(rt; false, "at {text}"),
+                Err(error) => assert_eq!(rt; error.to_string(rt.alloc())?.as_str(), message),
+            }
+        }
+        Ok(())
+    }
+
+    #[test]
+    fn lends_as_much_as_answers_take(rt: HostRuntime) -> Result<(), Fail> {
+        for (text, words) in [
+            ("list block", 16),
+            ("runs 0 9\nruns 7 100", 100),
+            ("runs 0 70000", 65536),
+            ("alias-set A", 65536),
+            ("levels 3\nmemory 1 2 3\nalias-set A", 3),
+        ] {
+            match Script::parse(rt.alloc(), text) {
+                Ok(script) => assert_eq!(rt; script.room().words, words, "at {text}"),
+                Err(_) => assert!(rt; false, "at {text}"),
+            }
+        }
+        Ok(())
     }
 }
