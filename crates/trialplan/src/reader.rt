@@ -1,4 +1,6 @@
 // The words of a line, read from the front.
+ghost use Rattle.std.specs.Prelude.{◌≤◌, IfOk};
+
 use crate::error::ScriptError;
 use crate::ranking::{One, Ranking, Rule, Score};
 use crate::words::{LevelCount, code_of};
@@ -121,11 +123,9 @@ impl<'a> Reader<'a> {
     }
 
     /// A number in base ten, at most so much.
-    pub fn at_most(
-        &mut self,
-        most: usize,
-        expected: &'static str,
-    ) -> Result<usize, ScriptError<'a>> {
+    pub fn at_most(&mut self, most: usize, expected: &'static str) -> Result<usize, ScriptError<'a>>
+        ensures { IfOk result (λ number. number ≤ most) }
+    {
         let start = *self;
         let number = self.number(expected)?;
         if number > most {
