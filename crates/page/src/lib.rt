@@ -6,11 +6,13 @@ ghost use Rattle.contents.specs.Memory.{holding, wrote};
 ghost use Rattle.page.specs.Page.{page as page_of};
 
 use contents::{Refusal, store};
+pub use letters::factor_of;
 use levels::Levels;
 use plan::SettledPlan;
 use printing::printed;
 pub use sheet::LONGEST;
 
+mod letters;
 mod printing;
 mod sheet;
 

@@ -1,9 +1,10 @@
 // A sheet holds the bytes of a page while it is put together. It is written on line by line, and keeps what it has room
 // for.
 ghost use Rattle.std.specs.Prelude.{◌≡◌, ◌<◌, [], ◌∷◌, ◌++◌, take, decimal};
-ghost use Rattle.page.specs.Page.{fields, letter_of, letters, line, shown};
+ghost use Rattle.page.specs.Page.{fields, letters, line, shown};
 ghost use Rattle.page.specs.Written.{written};
 
+use crate::letters::letter;
 use bounded::Bounded;
 use itoa::Buffer;
 use levels::Levels;
@@ -110,12 +111,4 @@ impl Sheet {
         }
         self.byte(b'\n');
     }
-}
-
-// The letter of a factor, from 0: A to Z, then a to f.
-fn letter(i: u8) -> u8
-    requires { i < 32 }
-    ensures { result ≡ letter_of i }
-{
-    if i < 26 { b'A' + i } else { b'a' + (i - 26) }
 }
