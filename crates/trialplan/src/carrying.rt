@@ -5,11 +5,13 @@ use crate::ranking::{Ranking, Score};
 use crate::request::{Request, Room};
 use crate::script::Script;
 use anyhow::{Context, Result};
+use bounded::Bounded;
 use history::{Call, Memory, Reply, best_generators_and_equal_answers};
 use levels::Levels;
+use planfile::{ENOUGH, deciding_bytes};
 use std::alloc::{AllocError, Global};
 use std::fs::File;
-use std::io::{Read, Write};
+use std::io::Write;
 use std::rt::Files;
 use std::{fs, io};
 
@@ -28,7 +30,7 @@ pub fn carry_out<L: Levels>(
     let files = read_files(rt, script)?;
     let mut calls = Vec::new(alloc);
     for (line, file) in script.lines.iter().zip(&files) {
-        line.request.add_calls(file, &mut calls)?;
+        line.request.add_calls(file.as_slice(), &mut calls)?;
     }
     let mut memory = memory_of(alloc, script.room())?;
     let outcome = best_generators_and_equal_answers::<L, Ranking, Score>(
@@ -53,15 +55,15 @@ fn memory_of(alloc: Global, room: Room) -> Result<Memory, AllocError> {
     })
 }
 
-// The bytes of the files that a script reads, with none for a line that reads no file.
-fn read_files(rt: &(impl Files + AllocGlobal), script: &Script<'_>) -> Result<Vec<Vec<u8>>> {
+// The bytes that decide on the files which a script reads, with none for a line that reads no file.
+fn read_files(rt: &(impl Files + AllocGlobal), script: &Script<'_>) -> Result<Vec<Front>> {
     let mut files = Vec::new(rt.alloc());
     for line in &script.lines {
         let file = match &line.request {
             Request::Call(Call::Read(path)) => {
                 read_front(rt, path).context(format_args!("cannot read {path}"))?
             }
-            _ => Vec::new(rt.alloc()),
+            _ => Bounded::new(0),
         };
         files.push(file)?;
     }
@@ -69,10 +71,8 @@ fn read_files(rt: &(impl Files + AllocGlobal), script: &Script<'_>) -> Result<Ve
 }
 
 // The first bytes of a file, as many as it takes to decide on it.
-fn read_front(rt: &(impl Files + AllocGlobal), path: &str) -> io::Result<Vec<u8>> {
-    let mut bytes = Vec::new(rt.alloc());
-    File::open(rt, path)?.take(FRONT).read_to_end(&mut bytes)?;
-    Ok(bytes)
+fn read_front(rt: &impl Files, path: &str) -> io::Result<Front> {
+    deciding_bytes(&mut File::open(rt, path)?)
 }
 
 // Prints all answers, each with what memory held then if that is asked for.
