@@ -1,20 +1,19 @@
 -- Best generators and equal answers, of what any list of calls leaves settled.
-use Rattle.std.proofs.Common.{◌≡◌, ℕ, ◌<◌, ◌≤◌, Bool, true, false, cond, List, [], ◌∷◌, ◌++◌, map, length, slice_index, IfSome, Some, None, Option, refl, sym, ap, ◌∙◌, subst, arith}
+use Rattle.std.proofs.Common.{◌≡◌, ℕ, true, List, slice_index, IfSome, Some, None, Option, refl, sym, ap, ◌∙◌, subst, arith}
 use Rattle.std.proofs.lemmas.Bool.{eqb-true}
 use Rattle.levels.specs.Arithmetic.{Arithmetic, Lawful}
 use Rattle.preferences.specs.Relation.{Relation, PreferenceLaws, fair, judged, better}
 use Rattle.contents.specs.declared.side.Side.{Side}
 use Rattle.contents.specs.declared.side.Side.TheVariants.{Defining, Block}
-use Rattle.contents.specs.Content.{Content, Kept, side_of}
+use Rattle.contents.specs.Content.{Content, Kept}
 use Rattle.contents.proofs.Keeps.{kept_defining}
 use Rattle.plan.specs.Answers.{base_of, chosen}
 use Rattle.plan.proofs.Choosing.{side_best, side_independent, side_as_many}
 use Rattle.history.specs.declared.question.Question.TheVariants.{Factors, Counts, Word, List as WordList, File, Generators, ScoredGenerators, Pattern, Resolution, AliasMember, AliasSet, Page, ClearPairs, Run, Runs, BlockNumber}
-use Rattle.history.specs.Lent.{Lent}
-use Rattle.history.specs.Questions.{StatedQuestion, answer, in_bytes}
+use Rattle.history.specs.Questions.{in_bytes}
 use Rattle.history.specs.States.{State}
-use Rattle.history.specs.Calls.{StatedCall, new, plan_after, settled_state}
-use Rattle.history.specs.BestAndEqual.{Settles, IsRival, AreBest, ShowsBest, GenerateTheSame, AnswerAlike, BestGeneratorsAndEqualAnswers}
+use Rattle.history.specs.Calls.{StatedCall, new, plan_after}
+use Rattle.history.specs.BestAndEqual.{Settles, AreBest, ShowsBest, AnswerAlike, BestGeneratorsAndEqualAnswers}
 use Rattle.history.proofs.Alike.{EqualParts, fair_of, equal_parts}
 use Rattle.history.proofs.Kept.{KeptIfLeft, called_kept, settles_kept}
 

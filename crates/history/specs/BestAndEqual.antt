@@ -8,7 +8,7 @@ use Rattle.contents.specs.Content.{Content, Kept, both, side_of}
 use Rattle.plan.specs.Answers.{base_of}
 use Rattle.history.specs.declared.question.Question.TheVariants.{Word, List as WordList, File, Generators, ScoredGenerators}
 use Rattle.history.specs.Lent.{Lent}
-use Rattle.history.specs.Questions.{Scoring, StatedQuestion, answer, exists, in_words, in_words_and_counts}
+use Rattle.history.specs.Questions.{StatedQuestion, answer, exists, in_words, in_words_and_counts}
 use Rattle.history.specs.Calls.{StatedCall, new, plan_after, settled_state}
 
 -- a list of calls on a new plan leaves it settled, with this content

@@ -1,11 +1,10 @@
 -- What a settled plan can be asked, and what it answers.
 use Rattle.std.specs.Borrow.{Bor}
-use Rattle.std.specs.Prelude.{ℕ, Bool, true, if◌then◌else◌, List, map, length, Ok, Err, Result, ◌==◌}
+use Rattle.std.specs.Prelude.{ℕ, Bool, true, if◌then◌else◌, List, length, Ok, Err, ◌==◌}
 use Rattle.levels.specs.Arithmetic.{Arithmetic}
 use Rattle.preferences.specs.Relation.{Relation}
 use Rattle.aliasing.specs.Pattern.{pattern, resolution}
 use Rattle.aliasing.specs.Clear.{clear_bytes}
-use Rattle.contents.specs.declared.refusal.Refusal.{Refusal}
 use Rattle.contents.specs.declared.refusal.Refusal.TheVariants.{Memory}
 use Rattle.contents.specs.Content.{Content, side_of, word_at}
 use Rattle.contents.specs.Memory.{both_fit, holding, holding_if, holding_ok, wrote, wrote_ok}
@@ -48,9 +47,10 @@ in_words xs m = (Written (wrote xs m.words), record m { words = holding xs m.wor
 -- words and as many counts, where both fit
 abbrev pub in_words_and_counts : List ℕ → List ℕ → Lent → Reply × Lent
 in_words_and_counts xs ys m =
-    let fit = both_fit (length xs) m.words m.counts in
-    (Written (if fit then Ok (length xs) else Err Memory),
-    record m { counts = holding_if fit ys m.counts; words = holding_if fit xs m.words })
+    let fit = both_fit (length xs) m.words m.counts in (
+      Written (if fit then Ok (length xs) else Err Memory),
+      record m { counts = holding_if fit ys m.counts; words = holding_if fit xs m.words },
+    )
 
 -- what is returned, and what lent memory holds then
 abbrev pub answer : Arithmetic → StatedQuestion → Content → Lent → Reply × Lent
