@@ -33,6 +33,9 @@ pub one_laws : (A : Arithmetic) → Lawful A → (o : One) → PreferenceLaws A 
 one_laws A lawful (Plain r) = rule_laws A lawful r
 one_laws A lawful (Reversed r) = reversed_laws A (rule_good A r.0) (rule_laws A lawful r.0)
 
-pub ranking_laws : (A : Arithmetic) → Lawful A → (r : Ranking) → PreferenceLaws A (ranking_good A r)
+pub ranking_laws : (A : Arithmetic) → Lawful A → (r : Ranking) →
+    PreferenceLaws A (ranking_good A r)
 ranking_laws A lawful (Single o) = one_laws A lawful o
-ranking_laws A lawful (Two t) = first_then_second_laws A (one_good A t.first) (one_good A t.second) (one_laws A lawful t.first) (one_laws A lawful t.second)
+ranking_laws A lawful (Two t) =
+    first_then_second_laws A (one_good A t.first) (one_good A t.second)
+    (one_laws A lawful t.first) (one_laws A lawful t.second)

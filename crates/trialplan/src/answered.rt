@@ -1,4 +1,6 @@
 // The lines of a script with what they were answered.
+ghost use Rattle.std.specs.Prelude.{◌≡◌, map, take, length, IfOk};
+
 use crate::error::NoSuchCall;
 use crate::request::Request;
 use crate::script::Line;
@@ -14,12 +16,15 @@ pub struct Answered<'s> {
     pub factors: u8,
 }
 
-/// The lines that were answered, in their order.
+/// The lines that were answered, in their order: the first ones.
 pub fn with_answers<'s>(
     alloc: Global,
     lines: &'s [Line<'s>],
     answers: &'s [Answer],
-) -> Result<Vec<Answered<'s>>, AllocError> {
+) -> Result<Vec<Answered<'s>>, AllocError>
+    ensures { IfOk result (λ all.
+        map (λ a. a.line.now) all.items ≡ take (length all.items) lines.now) }
+{
     let mut all = Vec::new(alloc);
     let mut rest = answers;
     for line in lines {
@@ -54,7 +59,7 @@ fn split_factors(answers: &[Answer]) -> (u8, &[Answer]) {
     }
 }
 
-/// Why there was no answer to a line, behind the lines before it.
+/// Why a line has no answer that stands behind these.
 pub fn no_such_call(line: &Line<'_>, before: &[Answered<'_>]) -> NoSuchCall {
     let number = line.number;
     match line.request {
