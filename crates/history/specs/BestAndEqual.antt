@@ -19,7 +19,7 @@ Settles A calls p = plan_after A calls new ≡ Some (settled_state p)
 abbrev pub IsWanted : Arithmetic → Side → Content → ℕ → Type 0
 IsWanted A side p = Generates A p.factors (base_of side p ++ side_of side p)
 
--- a rival: as many wanted words that with the base list generate all wanted words, listed best first
+-- a rival: another list of so many wanted words from which, beside the base list, every wanted word is generated; best words first
 pub record IsRival (A : Arithmetic) (good : Relation) (side : Side) (p : Content) (theirs : List ℕ) : Type 0 where
   pub as_many : length theirs ≡ length (side_of side p)
   pub wanted : (i : ℕ) → i < length theirs → IsWanted A side p (slice_index theirs i)
@@ -27,8 +27,8 @@ pub record IsRival (A : Arithmetic) (good : Relation) (side : Side) (p : Content
   pub best_first : (i j : ℕ) → i < j → j < length theirs →
       better good p.factors (base_of side p) (slice_index theirs j) (slice_index theirs i) ≡ false
 
--- the best generators of a side: with the base list they are independent and generate exactly the wanted words, and in
--- every rival no word is better than ours at its place
+-- the best generators of a side: none of them is superfluous beside the base list, they generate what is wanted and nothing
+-- else, and wherever a rival has a word, ours at that place is as good
 pub record AreBest (A : Arithmetic) (good : Relation) (side : Side) (p : Content) (ours : List ℕ) : Type 0 where
   pub as_many : length ours ≡ length (side_of side p)
   pub independent : Independent A p.factors (base_of side p ++ ours)

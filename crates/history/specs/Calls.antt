@@ -29,7 +29,7 @@ open_state p = record { settled = false; content = p }
 abbrev pub settled_state : Content → State
 settled_state p = record { settled = true; content = p }
 
--- a new plan is open, with one factor and no words
+-- how every plan begins: open, of one factor, without words
 abbrev pub new : State
 new = open_state (blank 1)
 

@@ -19,6 +19,6 @@ IsPaged A (Ok p) before now r =
 abbrev pub IsPageOfFile : Arithmetic → List ℕ → List ℕ → List ℕ → Result ℕ Refusal → Type 0
 IsPageOfFile A file = IsPaged A (read_file A file)
 
--- the levels that a file is read with: three if byte 5, from 0, is 3, else two
+-- the levels that a file is read with: those that its sixth byte names, where it names three; two otherwise
 abbrev pub levels_of : List ℕ → Arithmetic
 levels_of file = if nat_lt 5 (length file) && slice_index file 5 == 3 then three else two

@@ -12,7 +12,7 @@ pub enum Call<F, Q> {
     Read(F),
     /// A word more at the end of a list.
     Admit(Side, u64),
-    /// The word at a place of a list, from 1, is struck.
+    /// A word of a list is struck, by its place from 1.
     Strike(Side, usize),
     /// The plan changes no more.
     Settle,

@@ -20,7 +20,7 @@ pub enum Question<P, S, W> {
     Factors,
     /// How many defining and how many block words there are.
     Counts,
-    /// The word at a place of a list, from 1.
+    /// A word of a list by its place, from 1.
     Word(Side, usize),
     /// All words of a list.
     List(Side),

@@ -15,8 +15,8 @@ use std::io::Write;
 use std::rt::Files;
 use std::{fs, io};
 
-// A plan file has at most 137 bytes, and a longer file is refused whatever follows its first 138.
-const FRONT: u64 = 138;
+// The first bytes of a file.
+type Front = Bounded<u8, ENOUGH>;
 
 /// Carries out a script on a new plan, prints what it answered, and writes the files.
 ///
