@@ -13,9 +13,6 @@ use crate::outcome::Outcome;
 use contents::{Refusal, Side};
 use levels::Levels;
 
-// Three functions and not one over a closure: a bound on a closure that takes a `&mut` to a struct with a model is refused, and a
-// closure that takes a plan and gives it back would be as long as each body here.
-
 // The file of a file's plan with n factors and no words.
 fn start<L: Levels>(file: &[u8], n: u8, memory: &mut [u8]) -> Result<usize, Refusal>
     ensures count { result ≡ told (asked (read_file L.Levels.model file.now) (restarted n)) (file_of L.Levels.model) memory.old }
@@ -52,7 +49,6 @@ fn strike<L: Levels>(
 }
 
 // The file of a file's plan as it was read.
-// Like the questions of questions.rt: one line, with its contract at any levels.
 fn write<L: Levels>(file: &[u8], memory: &mut [u8]) -> Result<usize, Refusal>
     ensures count { result ≡ told (read_file L.Levels.model file.now) (file_of L.Levels.model) memory.old }
     ensures stored { memory.new ≡ left (read_file L.Levels.model file.now) (file_of L.Levels.model) memory.old }
@@ -60,7 +56,7 @@ fn write<L: Levels>(file: &[u8], memory: &mut [u8]) -> Result<usize, Refusal>
     settle::<L>(file)?.write(memory)
 }
 
-// Reads a file, starts the plan anew with n factors, and writes its file into memory; the value is its length.
+/// Reads a file, starts the plan anew with n factors, and writes its file into memory; the value is its length.
 #[unsafe(no_mangle)]
 pub extern "C" fn zorilla_start(levels: u8, file: &[u8], n: u8, memory: &mut [u8]) -> Outcome
     ensures answer { result ≡ outcome_of (told (asked (read_file (levels_by levels) file.now) (restarted n)) (file_of (levels_by levels)) memory.old) }
@@ -69,7 +65,7 @@ pub extern "C" fn zorilla_start(levels: u8, file: &[u8], n: u8, memory: &mut [u8
     by_levels!(levels, start(file, n, memory)).into()
 }
 
-// Reads a file, admits a word, and writes the plan's file into memory; the value is its length.
+/// Reads a file, admits a word, and writes the plan's file into memory; the value is its length.
 #[unsafe(no_mangle)]
 pub extern "C" fn zorilla_admit(
     levels: u8,
@@ -85,7 +81,7 @@ pub extern "C" fn zorilla_admit(
     by_levels!(levels, admit(file, side, word, memory)).into()
 }
 
-// Reads a file, strikes the word at a place, and writes the plan's file into memory; the value is its length.
+/// Reads a file, strikes the word at a place, and writes the plan's file into memory; the value is its length.
 #[unsafe(no_mangle)]
 pub extern "C" fn zorilla_strike(
     levels: u8,
@@ -101,7 +97,7 @@ pub extern "C" fn zorilla_strike(
     by_levels!(levels, strike(file, side, place, memory)).into()
 }
 
-// Reads a file, and writes the plan's file into memory; the value is its length.
+/// Reads a file, and writes the plan's file into memory; the value is its length.
 #[unsafe(no_mangle)]
 pub extern "C" fn zorilla_write(levels: u8, file: &[u8], memory: &mut [u8]) -> Outcome
     ensures answer { result ≡ outcome_of (told (read_file (levels_by levels) file.now) (file_of (levels_by levels)) memory.old) }

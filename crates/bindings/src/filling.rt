@@ -13,7 +13,7 @@ use crate::outcome::Outcome;
 use contents::Refusal;
 use levels::{Levels, TwoLevels};
 
-// The alias set of a legal word, in ascending code. Like the questions of questions.rt: one line, with its contract at any levels.
+// The alias set of a legal word, in ascending code.
 fn alias_set<L: Levels>(file: &[u8], word: u64, memory: &mut [u64]) -> Result<usize, Refusal>
     ensures count { let set = asked (read_file L.model file.now) (alias_set_of L.model word) in
         result ≡ wrote_ok set memory.old }

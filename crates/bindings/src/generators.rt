@@ -14,7 +14,7 @@ use levels::Levels;
 use preferences::Preference;
 
 // By any preference.
-// Like the questions of questions.rt: one line, with its contract at any levels.
+//
 fn choose<L: Levels, P: Preference<L>>(
     file: &[u8],
     side: Side,
@@ -41,7 +41,7 @@ fn choose_by<L: Levels>(
     by_rule!(rule, costs, preference => choose::<L, _>(file, side, &preference, memory))
 }
 
-// Writes the best generators into memory; the value is how many there are.
+/// Writes the best generators into memory; the value is how many there are.
 #[unsafe(no_mangle)]
 pub extern "C" fn zorilla_choose(
     levels: u8,

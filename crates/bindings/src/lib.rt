@@ -1,6 +1,5 @@
 // The library for callers in Rust and C: a plan file in, one call, an answer or the number of a refusal out.
 // C hands over levels, a side and a preference by number.
-// Exports that are alike in shape stay apart: each is a function that C calls by its own name.
 #![tactic(auto)]
 
 // A call at the levels of a number: 3 is three levels, any other number two.

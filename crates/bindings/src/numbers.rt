@@ -5,14 +5,14 @@ ghost use Rattle.bindings.specs.Numbers.{rule_by, scored_rule_by, side_by, verdi
 use contents::Side;
 use preferences::Verdict;
 
-// The costs of 32 factors, factor 1 first.
+/// The costs of 32 factors, factor 1 first.
 #[repr(C)]
 #[derive(Clone, Copy)]
 pub struct Costs {
     pub table: [u16; 32],
 }
 
-// The preferences that a caller can name. Costs stay beside the rule: C hands over both, whether the rule needs them or not.
+// The preferences that a caller can name.
 #[derive(Clone, Copy)]
 pub(crate) enum Rule {
     Shortest,
@@ -57,7 +57,6 @@ impl From<u8> for ScoredRule {
 }
 
 // 1 is the block side, any other number the defining side.
-// No From: neither u8 nor Side is a type of this crate.
 pub(crate) fn side_by(number: u8) -> Side
     ensures { result ≡ side_by number }
 {
@@ -68,7 +67,6 @@ pub(crate) fn side_by(number: u8) -> Side
 }
 
 // 0 where the words are equal, 1 where the first is better, 2 where the second is.
-// No From: neither Verdict nor u64 is a type of this crate.
 pub(crate) fn verdict_number(verdict: Verdict) -> u64
     ensures { result ≡ verdict_number verdict }
 {

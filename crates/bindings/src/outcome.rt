@@ -4,7 +4,7 @@ ghost use Rattle.bindings.specs.Outcomes.{outcome_of};
 
 use contents::Refusal;
 
-// Refusal 0 and the answer, or the number of the refusal and 0: C has no Result.
+/// Refusal 0 and the answer, or the number of the refusal and 0: C has no Result.
 #[repr(C)]
 #[derive(Clone, Copy)]
 pub struct Outcome {
@@ -32,7 +32,6 @@ impl From<Result<usize, Refusal>> for Outcome {
     ghost from_gives = { λ answer outcome. outcome ≡ outcome_of answer };
 
     fn from(answer: Result<usize, Refusal>) -> Outcome {
-        // as: From has no such pair, and TryFrom would bring an error that cannot come.
         Outcome::from(answer.map(|length| length as u64))
     }
 }

@@ -14,9 +14,6 @@ use crate::outcome::Outcome;
 use contents::{Refusal, Side};
 use levels::Levels;
 
-// One private function for each question, with its contract at any levels: a macro or a closure in its place would have none, and the
-// body is one line.
-
 // The number of factors of a file's plan.
 fn factors<L: Levels>(file: &[u8]) -> Result<u64, Refusal>
     ensures { result ≡ asked (read_file L.Levels.model file.now) factors_of }
@@ -46,9 +43,6 @@ fn pattern<L: Levels>(file: &[u8], memory: &mut [u32]) -> Result<usize, Refusal>
     settle::<L>(file)?.pattern(memory)
 }
 
-// Two functions for the resolution: C asks for its halves apart, since it has no pairs, and 0 stands for no resolution, since it
-// has no Option; one over a closure would leave a closure as long as each body.
-
 // The length of the resolution, or 0.
 fn resolution<L: Levels>(file: &[u8]) -> Result<u64, Refusal>
     ensures { result ≡ asked (read_file L.Levels.model file.now) (resolution_length L.Levels.model) }
@@ -72,7 +66,7 @@ fn alias_member<L: Levels>(file: &[u8], word: u64, m: u64) -> Result<u64, Refusa
     settle::<L>(file)?.alias_member(word, m)
 }
 
-// The number of factors.
+/// The number of factors.
 #[unsafe(no_mangle)]
 pub extern "C" fn zorilla_factors(levels: u8, file: &[u8]) -> Outcome
     ensures { result ≡ outcome_of (asked (read_file (levels_by levels) file.now) factors_of) }
@@ -80,7 +74,7 @@ pub extern "C" fn zorilla_factors(levels: u8, file: &[u8]) -> Outcome
     by_levels!(levels, factors(file)).into()
 }
 
-// How many words the list of a side has.
+/// How many words the list of a side has.
 #[unsafe(no_mangle)]
 pub extern "C" fn zorilla_count(levels: u8, file: &[u8], side: u8) -> Outcome
     ensures { result ≡ outcome_of (asked (read_file (levels_by levels) file.now) (count_of (side_by side))) }
@@ -89,7 +83,7 @@ pub extern "C" fn zorilla_count(levels: u8, file: &[u8], side: u8) -> Outcome
     by_levels!(levels, count(file, side)).into()
 }
 
-// The word at a place of a side's list, from 1.
+/// The word at a place of a side's list, from 1.
 #[unsafe(no_mangle)]
 pub extern "C" fn zorilla_word(levels: u8, file: &[u8], side: u8, place: usize) -> Outcome
     ensures { result ≡ outcome_of (asked (read_file (levels_by levels) file.now) (word_at (side_by side) place)) }
@@ -98,7 +92,7 @@ pub extern "C" fn zorilla_word(levels: u8, file: &[u8], side: u8, place: usize) 
     by_levels!(levels, word(file, side, place)).into()
 }
 
-// Writes the wordlength pattern into memory; the value is the number of factors.
+/// Writes the wordlength pattern into memory; the value is the number of factors.
 #[unsafe(no_mangle)]
 pub extern "C" fn zorilla_pattern(levels: u8, file: &[u8], memory: &mut [u32]) -> Outcome
     ensures answer { result ≡ outcome_of (told (read_file (levels_by levels) file.now) (pattern_of (levels_by levels)) memory.old) }
@@ -107,7 +101,7 @@ pub extern "C" fn zorilla_pattern(levels: u8, file: &[u8], memory: &mut [u32]) -
     by_levels!(levels, pattern(file, memory)).into()
 }
 
-// The resolution; 0 where there is none.
+/// The resolution; 0 where there is none.
 #[unsafe(no_mangle)]
 pub extern "C" fn zorilla_resolution(levels: u8, file: &[u8]) -> Outcome
     ensures { result ≡ outcome_of (asked (read_file (levels_by levels) file.now) (resolution_length (levels_by levels))) }
@@ -115,7 +109,7 @@ pub extern "C" fn zorilla_resolution(levels: u8, file: &[u8]) -> Outcome
     by_levels!(levels, resolution(file)).into()
 }
 
-// The count of the resolution; 0 where there is none.
+/// The count of the resolution; 0 where there is none.
 #[unsafe(no_mangle)]
 pub extern "C" fn zorilla_resolution_count(levels: u8, file: &[u8]) -> Outcome
     ensures { result ≡ outcome_of (asked (read_file (levels_by levels) file.now) (resolution_count (levels_by levels))) }
@@ -123,7 +117,7 @@ pub extern "C" fn zorilla_resolution_count(levels: u8, file: &[u8]) -> Outcome
     by_levels!(levels, shortest_words(file)).into()
 }
 
-// Alias member m of a word, from 0, in ascending code.
+/// Alias member m of a word, from 0, in ascending code.
 #[unsafe(no_mangle)]
 pub extern "C" fn zorilla_alias_member(levels: u8, file: &[u8], word: u64, m: u64) -> Outcome
     ensures { result ≡ outcome_of (asked (read_file (levels_by levels) file.now) (alias_member (levels_by levels) word m)) }

@@ -14,7 +14,7 @@ use levels::Levels;
 use preferences::{Cheapest, Scored, Shortest};
 
 // By any scored preference.
-// Like the questions of questions.rt: one line, with its contract at any levels.
+//
 fn choose_scored<L: Levels, P: Scored<L>>(
     file: &[u8],
     side: Side,
@@ -29,8 +29,7 @@ fn choose_scored<L: Levels, P: Scored<L>>(
     settle::<L>(file)?.choose_scored(side, preference, words, scores)
 }
 
-// By a scored rule and the costs that it may need. A match: it is the only one over this enum, where a type that is Scored
-// would need three, for the question, the score and the laws.
+// By a scored rule and the costs that it may need.
 fn choose_scored_by<L: Levels>(
     file: &[u8],
     side: Side,
@@ -51,7 +50,7 @@ fn choose_scored_by<L: Levels>(
     }
 }
 
-// Writes the best generators and their scores into two memories; the value is how many there are.
+/// Writes the best generators and their scores into two memories; the value is how many there are.
 #[unsafe(no_mangle)]
 pub extern "C" fn zorilla_choose_scored(
     levels: u8,

@@ -9,7 +9,7 @@ ghost use Rattle.bindings.specs.Outcomes.{outcome_of};
 use crate::outcome::Outcome;
 use history::trial_page;
 
-// Writes the page into memory; the value is its length. Byte 5 of the file says whether it has three levels.
+/// Writes the page into memory; the value is its length. Byte 5 of the file says whether it has three levels.
 #[unsafe(no_mangle)]
 #[tactic(auto, using(crate::proofs::Paged::paged_answer, crate::proofs::Paged::paged_left))]
 pub extern "C" fn zorilla_page(file: &[u8], memory: &mut [u8]) -> Outcome

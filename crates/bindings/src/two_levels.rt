@@ -12,8 +12,6 @@ use crate::outcome::Outcome;
 use contents::Refusal;
 use levels::TwoLevels;
 
-// One private function for each question, as in questions.rt: a line or two, with its contract.
-
 // The clear pairs of a file's plan.
 fn clear(file: &[u8], memory: &mut [u8]) -> Result<usize, Refusal>
     ensures count { result ≡ asked (read_file two file.now) (clear_count memory.old) }
@@ -37,7 +35,7 @@ fn block_number(file: &[u8], run: u64, words: &[u64]) -> Result<u64, Refusal>
     Ok(u64::from(number))
 }
 
-// Writes one byte for each pair of factors into memory; the value is how many pairs are clear.
+/// Writes one byte for each pair of factors into memory; the value is how many pairs are clear.
 #[unsafe(no_mangle)]
 pub extern "C" fn zorilla_clear(file: &[u8], memory: &mut [u8]) -> Outcome
     ensures answer { result ≡ outcome_of (asked (read_file two file.now) (clear_count memory.old)) }
@@ -46,7 +44,7 @@ pub extern "C" fn zorilla_clear(file: &[u8], memory: &mut [u8]) -> Outcome
     clear(file, memory).into()
 }
 
-// Run m, from 0, in ascending code.
+/// Run m, from 0, in ascending code.
 #[unsafe(no_mangle)]
 pub extern "C" fn zorilla_run(file: &[u8], m: u64) -> Outcome
     ensures { result ≡ outcome_of (asked (read_file two file.now) (run_of m)) }
@@ -54,7 +52,7 @@ pub extern "C" fn zorilla_run(file: &[u8], m: u64) -> Outcome
     run(file, m).into()
 }
 
-// The block number of a run under a list of words.
+/// The block number of a run under a list of words.
 #[unsafe(no_mangle)]
 pub extern "C" fn zorilla_block_number(file: &[u8], run: u64, words: &[u64]) -> Outcome
     ensures { result ≡ outcome_of (asked (read_file two file.now) (block_of run words.now)) }

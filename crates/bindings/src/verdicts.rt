@@ -14,7 +14,7 @@ fn compare<L: Levels>(rule: Rule, costs: [u16; 32], n: u8, base: &[u64], a: u64,
     by_rule!(rule, costs, preference => Preference::<L>::compare(&preference, n, base, a, b))
 }
 
-// Which of two codes is better, for n factors and a base list of words.
+/// Which of two codes is better, for n factors and a base list of words.
 #[unsafe(no_mangle)]
 pub extern "C" fn zorilla_verdict(
     levels: u8,

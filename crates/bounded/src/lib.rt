@@ -6,14 +6,13 @@ ghost use Rattle.std.specs.Prelude.{◌≡◌, ◌+◌, ◌≤◌, [], ◌∷◌
 
 use std::alloc::AllocError;
 
-// At most N items, in their order. Not the kit's ArrayVec: it is not Copy, and its clone can fail.
+/// At most N items, in their order.
 pub struct Bounded<T, const N: usize> {
     places: [T; N],
     len: usize,
     ghost few: { len ≤ N },
 }
 
-// By hand: a struct with a ghost field over a type parameter has no derived Clone.
 impl<T: Copy, const N: usize> Copy for Bounded<T, N> {}
 
 impl<T: Copy, const N: usize> Clone for Bounded<T, N> {
@@ -29,7 +28,7 @@ impl<T: Copy, const N: usize> Clone for Bounded<T, N> {
 impl<T: Copy, const N: usize> Bounded<T, N> {
     ghost use Rattle.bounded.specs.Items.{items_of};
 
-    // No items. A blank stands in each free place.
+    /// No items. A blank stands in each free place.
     pub fn new(blank: T) -> Bounded<T, N>
         ensures { items_of result ≡ [] }
     {
@@ -39,14 +38,14 @@ impl<T: Copy, const N: usize> Bounded<T, N> {
         }
     }
 
-    // The items.
+    /// The items.
     pub fn as_slice(&self) -> &[T]
         ensures { result.now ≡ items_of self.now }
     {
         &self.places[..self.len]
     }
 
-    // How many items there are.
+    /// How many items there are.
     pub fn len(&self) -> usize
         ensures count { result ≡ length (items_of self.now) }
         ensures few { result ≤ N }
@@ -54,7 +53,7 @@ impl<T: Copy, const N: usize> Bounded<T, N> {
         self.len
     }
 
-    // One item more at the end, where there is room.
+    /// One item more at the end, where there is room.
     pub fn push(&mut self, item: T)
         ensures { items_of self.new ≡ take N (items_of self.old ++ item ∷ []) }
     {
@@ -64,7 +63,7 @@ impl<T: Copy, const N: usize> Bounded<T, N> {
         }
     }
 
-    // More items at the end, as many as there is room for.
+    /// More items at the end, as many as there is room for.
     pub fn extend(&mut self, more: &[T])
         ensures { items_of self.new ≡ take N (items_of self.old ++ more.now) }
     {
@@ -75,7 +74,7 @@ impl<T: Copy, const N: usize> Bounded<T, N> {
         self.len = len + taken;
     }
 
-    // The list without the item at a place, from 0; later items move up. Nothing where no item is there.
+    /// The list without the item at a place, from 0; later items move up. Nothing where no item is there.
     pub fn remove(&mut self, place: usize)
         ensures { items_of self.new ≡ take place (items_of self.old) ++ drop (place + 1) (items_of self.old) }
     {

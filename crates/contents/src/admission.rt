@@ -34,7 +34,7 @@ impl PlanContent {
         }
     }
 
-    // A word is admitted at the end of one list.
+    /// A word is admitted at the end of one list.
     pub fn admit<L: Levels>(&mut self, side: Side, word: u64) -> Result<(), Refusal>
         ensures { Acts (admitted L.Levels.model side word (content_of self.old)) (content_of self.old) (content_of self.new) result }
     {
@@ -43,7 +43,7 @@ impl PlanContent {
         Ok(())
     }
 
-    // The word at a place of one list, from 1, is struck.
+    /// A word is struck from a list, by its place from 1.
     pub fn strike(&mut self, side: Side, place: usize) -> Result<(), Refusal>
         ensures { Acts (struck side place (content_of self.old)) (content_of self.old) (content_of self.new) result }
     {
@@ -52,7 +52,7 @@ impl PlanContent {
         Ok(())
     }
 
-    // The word at a place of one list, from 1.
+    /// A word of a list by its place, from 1.
     pub fn word(&self, side: Side, place: usize) -> Result<u64, Refusal>
         ensures { result ≡ word_at side place (content_of self.now) }
     {

@@ -21,14 +21,14 @@ impl PlanContent {
     ghost use Rattle.contents.specs.Content.{blank, both, side_of, started, with_side};
     ghost use Rattle.contents.specs.Held.{content_of, result_of};
 
-    // One factor, and no words.
+    /// One factor, and no words.
     pub fn new() -> PlanContent
         ensures { content_of result ≡ blank 1 }
     {
         PlanContent::blank(1)
     }
 
-    // So many factors, and no words.
+    /// So many factors, and no words.
     pub fn started(n: u8) -> Result<PlanContent, Refusal>
         ensures { result_of result ≡ started n }
     {
@@ -40,7 +40,6 @@ impl PlanContent {
     }
 
     // The same, for a number that is known to be in range.
-    // The range is asked here, as its callers have just tested it, or pass 1, and the value keeps it.
     fn blank(n: u8) -> PlanContent
         requires low { 1 ≤ n }
         requires high { n ≤ 32 }
@@ -53,7 +52,7 @@ impl PlanContent {
         }
     }
 
-    // The number of factors.
+    /// The number of factors.
     pub fn factors(&self) -> u8
         ensures value { result ≡ (content_of self.now).factors }
         ensures low { 1 ≤ result }
@@ -62,7 +61,7 @@ impl PlanContent {
         self.factors
     }
 
-    // The list on one side. A side picks one of two fields.
+    /// The list on one side.
     pub fn list(&self, side: Side) -> &Words
         ensures { listed result.now ≡ side_of side (content_of self.now) }
     {
@@ -88,7 +87,6 @@ impl PlanContent {
         requires nonzero { 0 < word }
         ensures { content_of self.new ≡ with_side side (side_of side (content_of self.old) ++ word ∷ []) (content_of self.old) }
     {
-        // No `list_mut`: `few` bounds both lists together.
         match side {
             Side::Defining => self.defining.push(word),
             Side::Block => self.block.push(word),
@@ -99,7 +97,6 @@ impl PlanContent {
     pub(crate) fn remove(&mut self, side: Side, place: usize)
         ensures { content_of self.new ≡ with_side side (take place (side_of side (content_of self.old)) ++ drop (place + 1) (side_of side (content_of self.old))) (content_of self.old) }
     {
-        // No `list_mut`: `few` bounds both lists together.
         match side {
             Side::Defining => self.defining.remove(place),
             Side::Block => self.block.remove(place),

@@ -9,7 +9,7 @@ use crate::side::Side;
 use levels::{Basis, Levels};
 use std::marker::{Model, PhantomData};
 
-// What a plan holds, with a basis of its words, by which it is known in a handful of sums whether they generate a word.
+/// What a plan holds, with a basis of its words, by which it is known in a handful of sums whether they generate a word.
 #[derive(Drop)]
 pub struct Draft<L: Levels> {
     held: PlanContent,
@@ -32,7 +32,7 @@ impl<L: Levels> Model for Draft<L> {
 }
 
 impl<L: Levels> Draft<L> {
-    // So many factors, and no words.
+    /// So many factors, and no words.
     pub fn started(n: u8) -> Result<Draft<L>, Refusal>
         ensures { result ≡ started n }
     {
@@ -43,7 +43,7 @@ impl<L: Levels> Draft<L> {
         })
     }
 
-    // A word is admitted at the end of one list.
+    /// A word is admitted at the end of one list.
     pub fn admit(&mut self, side: Side, word: u64) -> Result<(), Refusal>
         ensures { Acts (admitted L.Levels.model side word self.old) self.old self.new result }
     {
@@ -55,7 +55,7 @@ impl<L: Levels> Draft<L> {
         Ok(())
     }
 
-    // What the plan holds now.
+    /// What the plan holds now.
     pub fn finish(self) -> PlanContent
         ensures { content_of result ≡ self }
     {

@@ -7,38 +7,37 @@ use std::fmt;
 
 #[derive(Clone, Copy, PartialEq, Eq, Debug)]
 pub enum Refusal {
-    // the number of factors is not from 1 to 32
+    /// the number of factors is not from 1 to 32
     Factors = 1,
-    // a code is illegal
+    /// a code is illegal
     Illegal = 2,
-    // the word is generated already
+    /// the word is generated already
     Generated = 3,
-    // more words than the limit
+    /// more words than the limit
     Limit = 4,
-    // there is no word at this place
+    /// there is no word at this place
     Place = 5,
-    // the memory is shorter than the answer
+    /// the memory is shorter than the answer
     Memory = 6,
-    // the file is cut short
+    /// the file is cut short
     Cut = 7,
-    // the file's mark is not DWF
+    /// the file's mark is not DWF
     Mark = 8,
-    // the file's version is not 1
+    /// the file's version is not 1
     Version = 9,
-    // the file's levels are not the plan's
+    /// the file's levels are not the plan's
     Levels = 10,
-    // bytes follow the end of the file's content
+    /// bytes follow the end of the file's content
     Surplus = 11,
-    // the number is past the last
+    /// the number is past the last
     Last = 12,
 }
 
 impl Refusal {
-    // The number by which a refusal is reported, for callers that name it.
+    /// The number by which a refusal is reported, for callers that name it.
     pub fn number(self) -> u8
         ensures { result ≡ number_of self }
     {
-        // as: the one way to a discriminant.
         self as u8
     }
 }

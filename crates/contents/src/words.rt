@@ -15,7 +15,7 @@ pub struct Words {
 impl Words {
     ghost use Rattle.contents.specs.List.{listed};
 
-    // No words.
+    /// No words.
     pub fn new() -> Words
         ensures { listed result ≡ [] }
     {
@@ -24,14 +24,14 @@ impl Words {
         }
     }
 
-    // The words in their order.
+    /// The words in their order.
     pub fn as_slice(&self) -> &[u64]
         ensures { result.now ≡ listed self.now }
     {
         self.words.as_slice()
     }
 
-    // How many words there are.
+    /// How many words there are.
     pub fn len(&self) -> usize
         ensures value { result ≡ length (listed self.now) }
         ensures bound { result ≤ 16 }

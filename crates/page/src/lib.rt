@@ -16,8 +16,8 @@ mod letters;
 mod printing;
 mod sheet;
 
-// The trial page is written at the start of the memory that is lent, and its length is answered. It has at most 1,024
-// bytes.
+/// The trial page is written at the start of the memory that is lent, and its length is answered. It has at most 1,024
+/// bytes.
 pub fn page<L: Levels>(plan: &SettledPlan<L>, memory: &mut [u8]) -> Result<usize, Refusal>
     ensures stored { memory.new ≡ holding (page_of L.Levels.model plan.now) memory.old }
     ensures count { result ≡ wrote (page_of L.Levels.model plan.now) memory.old }

@@ -35,7 +35,6 @@ impl Sheet {
     fn print_pattern<L: Levels>(&mut self, plan: &SettledPlan<L>)
         ensures { written self.new ≡ take 1024 (written self.old ++ pattern_line L.Levels.model plan.now) }
     {
-        // The question writes into memory that it is lent.
         let mut counts = [0; aliasing::pattern::LENGTHS];
         let end = plan.pattern(&mut counts).unwrap();
         self.numbers(b"pattern", &counts[..end]);
@@ -51,7 +50,6 @@ impl Sheet {
     )
         ensures { written self.new ≡ take 1024 (written self.old ++ generators_line L.Levels.model label.now (P.Preference.good preference.now) side plan.now) }
     {
-        // The question writes into memory that it is lent.
         let mut words = [0; choice::MOST];
         let end = plan.choose(side, preference, &mut words).unwrap();
         self.words::<L>(label, plan, &words[..end]);
@@ -61,7 +59,6 @@ impl Sheet {
     fn print_clear<L: Levels>(&mut self, plan: &SettledPlan<L>)
         ensures { written self.new ≡ take 1024 (written self.old ++ clear_line L.Levels.model plan.now) }
     {
-        // By the number of levels: the page has this line with two levels alone, a rule of the project.
         if L::LEVELS == 2 {
             self.numbers(b"clear", &[clear_count::<L>(plan)]);
         }
@@ -72,7 +69,6 @@ impl Sheet {
 fn clear_count<L: Levels>(plan: &SettledPlan<L>) -> u32
     ensures { result ≡ ones_in (clear_bytes plan.now.factors plan.now.defining) }
 {
-    // as: From has no such pair, and TryFrom would bring an error that cannot come.
     clear(plan.factors(), plan.list(Side::Defining)).ones() as u32
 }
 
@@ -82,7 +78,6 @@ pub(crate) fn printed<L: Levels>(plan: &SettledPlan<L>) -> Sheet
 {
     let mut sheet = Sheet::new();
     let (defining, block) = plan.counts();
-    // as: From has no such pair, and TryFrom would bring an error that cannot come.
     sheet.print_head::<L>(plan.factors(), defining as u32, block as u32);
     sheet.print_resolution::<L>(plan);
     sheet.print_pattern::<L>(plan);

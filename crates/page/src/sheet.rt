@@ -10,7 +10,7 @@ use itoa::Buffer;
 use levels::Levels;
 use plan::SettledPlan;
 
-// No page is longer.
+/// No page is longer.
 pub const LONGEST: usize = 1024;
 
 // The digit for which its letter stands alone.
@@ -85,22 +85,19 @@ impl Sheet {
         }
     }
 
-    // A word of a plan, digit by digit from factor 1. The number of the factor is needed, since its letter is made of it;
-    // a list of the digits is not kept.
+    // A word of a plan, digit by digit from factor 1.
     fn word<L: Levels>(&mut self, plan: &SettledPlan<L>, code: u64)
         ensures { written self.new ≡ take 1024 (written self.old ++ shown L.Levels.model plan.now.factors code) }
     {
         let base = 1u64 << L::BITS;
         let mut rest = code;
         for i in 0..plan.factors() {
-            // as: From has no such pair, and TryFrom would bring an error that cannot come.
             self.digit(i, (rest % base) as u8);
             rest /= base;
         }
     }
 
-    // A line of a label and words of a plan. It has the loop of `numbers`: a trait for what stands behind the space, with
-    // its two impls, or a closure that writes it into the sheet, with the contract of both, would be longer than the two loops.
+    // A line of a label and words of a plan.
     pub(crate) fn words<L: Levels>(&mut self, label: &[u8], plan: &SettledPlan<L>, words: &[u64])
         ensures { written self.new ≡ take 1024 (written self.old ++ line label.now (fields (shown L.Levels.model plan.now.factors) words.now)) }
     {

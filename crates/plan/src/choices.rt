@@ -17,8 +17,8 @@ use levels::Levels;
 use preferences::{Preference, Scored};
 
 impl<L: Levels> SettledPlan<L> {
-    // Writes the best generators of a side into memory, and tells how many there are: as many as the side has words, at
-    // most 16. With the base list they are independent.
+    /// Writes the best generators of a side into memory, and tells how many there are: as many as the side has words, at
+    /// most 16. With the base list they are independent.
     pub fn choose<P: Preference<L>>(
         &self,
         side: Side,
@@ -50,9 +50,8 @@ impl<L: Levels> SettledPlan<L> {
         choice::choose::<L, P>(preference, self.factors(), base, self.list(side))
     }
 
-    // Writes the best generators of a side, and their scores, and tells how many there are. Nothing is written if
-    // either memory is too short.
-    // Two memories, by the rules: words are 64-bit numbers and scores 32-bit ones.
+    /// Writes the best generators of a side, and their scores, and tells how many there are. Nothing is written if
+    /// either memory is too short.
     pub fn choose_scored<P: Scored<L>>(
         &self,
         side: Side,
@@ -78,7 +77,6 @@ impl<L: Levels> SettledPlan<L> {
 }
 
 // The scores of at most 16 words.
-// It asks for at most 16 words, which its one caller has: a type for that is `Chosen`, which hands out a slice.
 fn scores_of<L: Levels, P: Scored<L>>(preference: &P, n: u8, words: &[u64]) -> Bounded<u32, MOST>
     requires { length words.now ≤ 16 }
     ensures { items_of result ≡ map (P.Scored.points preference.now n) words.now }

@@ -8,6 +8,7 @@ use contents::{PlanContent, Refusal, Side};
 use levels::Levels;
 use std::marker::{Model, PhantomData};
 
+/// A plan that changes, and is not asked.
 #[derive(Drop)]
 pub struct OpenPlan<L: Levels> {
     pub(crate) levels: PhantomData<L>,
@@ -28,7 +29,7 @@ impl<L: Levels> Model for OpenPlan<L> {
 }
 
 impl<L: Levels> OpenPlan<L> {
-    // One factor and no words.
+    /// One factor and no words.
     pub fn new() -> OpenPlan<L>
         ensures { result ≡ blank 1 }
     {
@@ -38,7 +39,7 @@ impl<L: Levels> OpenPlan<L> {
         }
     }
 
-    // So many factors, and no words.
+    /// So many factors, and no words.
     pub fn start(&mut self, n: u8) -> Result<(), Refusal>
         ensures { Acts (started n) self.old self.new result }
     {
@@ -46,22 +47,21 @@ impl<L: Levels> OpenPlan<L> {
         Ok(())
     }
 
-    // One word more at the end of one list.
-    // A side and a word or a place stand apart, here and in `strike` and `word`: that is how the rules name a call.
+    /// One word more at the end of one list.
     pub fn admit(&mut self, side: Side, word: u64) -> Result<(), Refusal>
         ensures { Acts (admitted L.Levels.model side word self.old) self.old self.new result }
     {
         self.held.admit::<L>(side, word)
     }
 
-    // The word at a place of one list, from 1, is removed.
+    /// A word is removed from a list, by its place from 1.
     pub fn strike(&mut self, side: Side, place: usize) -> Result<(), Refusal>
         ensures { Acts (struck side place self.old) self.old self.new result }
     {
         self.held.strike(side, place)
     }
 
-    // The plan that a file holds. The file of what was read is that file; one that is refused leaves the plan as it was.
+    /// The plan that a file holds. The file of what was read is that file; one that is refused leaves the plan as it was.
     pub fn read(&mut self, file: &[u8]) -> Result<(), Refusal>
         ensures acts { Acts (read_file L.Levels.model file.now) self.old self.new result }
         ensures again { result ≡ Ok tt → file_of L.Levels.model self.new ≡ file.now }
@@ -70,7 +70,7 @@ impl<L: Levels> OpenPlan<L> {
         Ok(())
     }
 
-    // The plan changes no more. Its words are legal and independent, and no more than the limit.
+    /// The plan changes no more. Its words are legal and independent, and no more than the limit.
     pub fn settle(self) -> SettledPlan<L>
         ensures same { result ≡ self }
         ensures kept { Kept L.Levels.model result }

@@ -17,7 +17,7 @@ use levels::{Levels, TwoLevels};
 use preferences::preference::all_legal;
 
 impl<L: Levels> SettledPlan<L> {
-    // Writes the wordlength pattern of the defining words: n counts, at most 32.
+    /// Writes the wordlength pattern of the defining words: n counts, at most 32.
     pub fn pattern(&self, memory: &mut [u32]) -> Result<usize, Refusal>
         ensures stored { memory.new ≡ holding (pattern L.Levels.model self.now.factors (defined L.Levels.model self.now)) memory.old }
         ensures count { result ≡ wrote (pattern L.Levels.model self.now.factors (defined L.Levels.model self.now)) memory.old }
@@ -28,15 +28,15 @@ impl<L: Levels> SettledPlan<L> {
         store(&counts[..usize::from(n)], memory)
     }
 
-    // The least length of which the defining words generate words other than code 0, and their count; absent without
-    // defining words.
+    /// The least length of which the defining words generate words other than code 0, and their count; absent without
+    /// defining words.
     pub fn resolution(&self) -> Option<(u32, u32)>
         ensures { result ≡ resolution L.Levels.model self.now.factors (defined L.Levels.model self.now) }
     {
         aliasing::pattern::resolution::<L>(self.factors(), self.list(Side::Defining))
     }
 
-    // Alias member m, from 0, of a word over the defining words, in ascending code.
+    /// Alias member m, from 0, of a word over the defining words, in ascending code.
     pub fn alias_member(&self, word: u64, m: u64) -> Result<u64, Refusal>
         ensures { result ≡ alias_member L.Levels.model word m self.now }
     {
@@ -76,7 +76,7 @@ impl<L: Levels> SettledPlan<L> {
 }
 
 impl SettledPlan<TwoLevels> {
-    // Writes one byte for each pair of factors, 1 if it is clear, and tells how many are.
+    /// Writes a byte for every pair of factors, 1 where it is clear, and tells how many are.
     pub fn clear(&self, memory: &mut [u8]) -> Result<usize, Refusal>
         ensures stored { memory.new ≡ holding (clear_bytes self.now.factors self.now.defining) memory.old }
         ensures count { result ≡ wrote_ones (clear_bytes self.now.factors self.now.defining) memory.old }
@@ -87,8 +87,8 @@ impl SettledPlan<TwoLevels> {
         Ok(ones)
     }
 
-    // Run m, from 0, in ascending code: a code in which every defining word has an even number of its letters at level 1.
-    // Each defining word halves the number of runs.
+    /// Run m, from 0, in ascending code, of those in which each defining word has its letters at level 1 in even number.
+    /// Each defining word halves the number of runs.
     pub fn run(&self, m: u64) -> Result<u64, Refusal>
         ensures value { result ≡ run_of m self.now }
         ensures runs { (x : ℕ) → is_run self.now.factors (generated two self.now.factors self.now.defining) x ≡ is_run self.now.factors self.now.defining x }
@@ -123,7 +123,7 @@ impl SettledPlan<TwoLevels> {
         1 << self.factors().saturating_sub(defining)
     }
 
-    // The block number of a run under a list of words.
+    /// The block number of a run under a list of words.
     pub fn block_number(&self, run: u64, words: &[u64]) -> Result<u32, Refusal>
         ensures { result ≡ block_of run words.now self.now }
     {

@@ -9,8 +9,7 @@ use contents::{PlanContent, Refusal, Side, store};
 use levels::{Levels, TwoLevels};
 use std::marker::{Model, PhantomData};
 
-// It has the fields of an open plan, and a type of its own: only a settled plan answers, and only an open one changes. One type with a
-// marker for its state would keep that too, but each method would stand in the impl of one marker: no plainer.
+/// A plan that answers, and does not change.
 #[derive(Drop)]
 pub struct SettledPlan<L: Levels> {
     pub(crate) levels: PhantomData<L>,
@@ -31,7 +30,7 @@ impl<L: Levels> Model for SettledPlan<L> {
 }
 
 impl<L: Levels> SettledPlan<L> {
-    // The plan is open to changes again.
+    /// The plan is open to changes again.
     pub fn reopen(self) -> OpenPlan<L>
         ensures { result ≡ self }
     {
@@ -55,7 +54,7 @@ impl<L: Levels> SettledPlan<L> {
         })
     }
 
-    // The number of factors, from 1 to 32.
+    /// The number of factors, from 1 to 32.
     pub fn factors(&self) -> u8
         ensures value { result ≡ self.now.factors }
         ensures low { 1 ≤ result }
@@ -64,7 +63,7 @@ impl<L: Levels> SettledPlan<L> {
         self.held.factors()
     }
 
-    // The words of one list, at most 16. Those of both lists are legal and independent, and no more than the limit.
+    /// The words of one list, at most 16. Those of both lists are legal and independent, and no more than the limit.
     pub fn list(&self, side: Side) -> &[u64]
         ensures words { result.now ≡ side_of side self.now }
         ensures few { length result.now ≤ 16 }
@@ -73,7 +72,7 @@ impl<L: Levels> SettledPlan<L> {
         self.held.list(side).as_slice()
     }
 
-    // How many words each list has, the defining one first: at most 16 in all. The plan is kept.
+    /// How many words each list has, the defining one first: at most 16 in all. The plan is kept.
     pub fn counts(&self) -> (usize, usize)
         ensures defining { result.0 ≡ length self.now.defining }
         ensures block { result.1 ≡ length self.now.block }
@@ -86,15 +85,15 @@ impl<L: Levels> SettledPlan<L> {
         )
     }
 
-    // The word at a place of one list, from 1.
+    /// A word of a list by its place, from 1.
     pub fn word(&self, side: Side, place: usize) -> Result<u64, Refusal>
         ensures { result ≡ word_at side place self.now }
     {
         self.held.word(side, place)
     }
 
-    // The file of the plan is written at the start of the memory that is lent, and its length is answered. The plan is
-    // read back from its file.
+    /// The file of the plan is written at the start of the memory that is lent, and its length is answered. The plan is
+    /// read back from its file.
     pub fn write(&self, memory: &mut [u8]) -> Result<usize, Refusal>
         ensures stored { memory.new ≡ holding (file_of L.Levels.model self.now) memory.old }
         ensures count { result ≡ wrote (file_of L.Levels.model self.now) memory.old }

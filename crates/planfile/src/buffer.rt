@@ -3,7 +3,7 @@ use crate::HEAD;
 use bounded::Bounded;
 use contents::words::MOST;
 
-// The longest plan file: its head, and 8 bytes for each of 16 words.
+/// The longest plan file: its head, and 8 bytes for each of 16 words.
 pub const LONGEST: usize = HEAD + 8 * MOST;
 
 #[derive(Clone, Copy)]
@@ -25,14 +25,14 @@ impl Buffer {
         }
     }
 
-    // The bytes that were written so far.
+    /// The bytes that were written so far.
     pub fn as_slice(&self) -> &[u8]
         ensures { result.now ≡ written self.now }
     {
         self.bytes.as_slice()
     }
 
-    // More bytes at the end. It asks for room, and cuts nothing: whoever writes a file knows how long it gets at most.
+    // More bytes at the end, for which there is room.
     pub(crate) fn extend(&mut self, more: &[u8])
         requires { length (written self.old) + length more.now ≤ LONGEST }
         ensures { written self.new ≡ written self.old ++ more.now }

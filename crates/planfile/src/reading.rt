@@ -61,7 +61,7 @@ impl Head {
     }
 }
 
-// The plan that a file holds, or the first check that fails.
+/// The plan that a file holds, or the first check that fails.
 pub fn read<L: Levels>(file: &[u8]) -> Result<PlanContent, Refusal>
     ensures { result_of result ≡ read_file L.Levels.model file.now }
 {

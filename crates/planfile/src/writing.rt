@@ -13,7 +13,6 @@ use levels::Levels;
 fn head<L: Levels>(held: &PlanContent) -> [u8; HEAD]
     ensures { result ≡ mark ++ bytes_of 2 1 ++ (L.Levels.model.s ∷ (content_of held.now).factors ∷ length (content_of held.now).defining ∷ length (content_of held.now).block ∷ []) }
 {
-    // as: From has no such pair, and TryFrom would bring an error that cannot come.
     let defining = held.list(Side::Defining).len() as u8;
     let block = held.list(Side::Block).len() as u8;
     let [d, w, f] = MARK;
@@ -31,7 +30,7 @@ fn head<L: Levels>(held: &PlanContent) -> [u8; HEAD]
     ]
 }
 
-// The file of a plan.
+/// The file of a plan.
 pub fn file<L: Levels>(held: &PlanContent) -> Buffer
     ensures { written result ≡ file_of L.Levels.model (content_of held.now) }
 {

@@ -143,7 +143,6 @@ static CASES: [Case; 30] = [
 fn show(rt: &HostRuntime, case: &Case) -> io::Result<()> {
     let name = case.name;
     println!(rt; "{name}")?;
-    // An array: the page goes into memory that is lent.
     let mut memory = [0; PAGE];
     match trial_page(case.file, &mut memory) {
         Ok(len) => rt.stdout().write_all(&memory[..len]),

@@ -6,7 +6,6 @@ use std::io;
 use std::io::Write;
 
 fn main(rt: HostRuntime) -> io::Result<()> {
-    // An array: the page goes into memory that is lent.
     let mut memory = [0; PAGE];
     match page_of_input(&mut rt.stdin(), &mut memory)? {
         Ok(len) => rt.stdout().write_all(&memory[..len]),
