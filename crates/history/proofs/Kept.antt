@@ -9,9 +9,9 @@ use Rattle.planfile.proofs.Roundtrip.{read_file_kept}
 use Rattle.std.specs.Option.{option_and_then}
 use Rattle.std.specs.Result.{result_unwrap_or}
 use Rattle.history.specs.declared.call.Call.TheVariants.{Start, Read, Admit, Strike, Settle, Reopen, Ask}
-use Rattle.history.specs.States.{State}
+use Rattle.history.specs.States.{State, settled_state}
 use Rattle.history.specs.Questions.{exists}
-use Rattle.history.specs.Calls.{StatedCall, new, after_open, after_settled, state_after, plan_after, settled_state}
+use Rattle.history.specs.Calls.{StatedCall, new, after_open, after_settled, state_after, plan_after}
 use Rattle.history.specs.BestAndEqual.{Settles}
 
 -- a call that acts or changes nothing

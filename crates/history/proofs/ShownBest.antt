@@ -11,7 +11,7 @@ use Rattle.plan.specs.Answers.{base_of, chosen}
 use Rattle.plan.proofs.Choosing.{side_best, side_independent, side_as_many}
 use Rattle.history.specs.declared.question.Question.TheVariants.{Factors, Counts, Word, List as WordList, File, Generators, ScoredGenerators, Pattern, Resolution, AliasMember, AliasSet, Page, ClearPairs, Run, Runs, BlockNumber}
 use Rattle.history.specs.Questions.{in_bytes}
-use Rattle.history.specs.States.{State}
+use Rattle.history.specs.States.{State, settled_state}
 use Rattle.history.specs.Calls.{StatedCall, new, plan_after}
 use Rattle.history.specs.BestAndEqual.{Settles, AreBest, ShowsBest, AnswerAlike, BestGeneratorsAndEqualAnswers}
 use Rattle.history.proofs.Alike.{EqualParts, fair_of, equal_parts}

@@ -4,7 +4,6 @@ use Rattle.std.specs.Prelude.{ℕ, true, false, if◌then◌else◌, List, [], �
 use Rattle.std.specs.Option.{option_and_then, option_map_or}
 use Rattle.std.specs.Result.{result_unwrap_or}
 use Rattle.levels.specs.Arithmetic.{Arithmetic}
-use Rattle.preferences.specs.Relation.{Relation}
 use Rattle.contents.specs.declared.refusal.Refusal.{Refusal}
 use Rattle.contents.specs.Content.{Content, blank, started, admitted, struck}
 use Rattle.planfile.specs.File.{read_file}
@@ -15,25 +14,18 @@ use Rattle.history.specs.declared.question.Question.{Question}
 use Rattle.history.specs.declared.question.Reply.{Reply}
 use Rattle.history.specs.declared.question.Reply.TheVariants.{Changed}
 use Rattle.history.specs.Lent.{Lent, lent}
-use Rattle.history.specs.Questions.{StatedQuestion, exists, answer, stated_question}
-use Rattle.history.specs.States.{State}
+use Rattle.history.specs.Questions.{Meaning, StatedQuestion, exists, answer, stated_question}
+use Rattle.history.specs.States.{State, open_state, settled_state}
 
 -- a call as it is stated: a file is its bytes, a question is stated too
 abbrev pub StatedCall : Type 0
 StatedCall = Call (List ℕ) StatedQuestion
 
--- a plan that is open, and one that is settled
-abbrev pub open_state : Content → State
-open_state p = record { settled = false; content = p }
-
-abbrev pub settled_state : Content → State
-settled_state p = record { settled = true; content = p }
-
 -- how every plan begins: open, of one factor, without words
 abbrev pub new : State
 new = open_state (blank 1)
 
--- what a call leaves of an open plan, a refused one nothing else than there was; none where an open plan takes no such call
+-- what a call leaves of an open plan, a refused one what there was; none where it takes no such call
 abbrev pub after_open : Arithmetic → StatedCall → Content → Option State
 after_open A (Start n) p = Some (open_state (result_unwrap_or (started n) p))
 after_open A (Read file) p = Some (open_state (result_unwrap_or (read_file A file) p))
@@ -50,7 +42,8 @@ after_settled A (Ask question) p = if exists A question then Some (settled_state
 after_settled A _ p = None
 
 abbrev pub state_after : Arithmetic → StatedCall → State → Option State
-state_after A call w = if w.settled then after_settled A call w.content else after_open A call w.content
+state_after A call w =
+    if w.settled then after_settled A call w.content else after_open A call w.content
 
 -- what a list of calls leaves
 abbrev pub plan_after : Arithmetic → List StatedCall → State → Option State
@@ -83,17 +76,19 @@ answers A (call ∷ calls) w m =
 abbrev pub memory_after : Arithmetic → List StatedCall → State → Lent → Lent
 memory_after A [] w m = m
 memory_after A (call ∷ calls) w m =
-    option_map_or (λ v. memory_after A calls v (answer_to A call w.content m).1) (state_after A call w) m
+    let a = answer_to A call w.content m in
+    option_map_or (λ v. memory_after A calls v a.1) (state_after A call w) m
 
 -- a call of the code as it is stated, by what its preferences mean
-abbrev pub stated_call : {P S : Type 0} → (P → Relation) → (S → Relation) → (S → ℕ → ℕ → ℕ) → Call (Bor (List ℕ)) (Question P S (Bor (List ℕ))) → StatedCall
-stated_call good good' points (Start n) = Start n
-stated_call good good' points (Read file) = Read file.now
-stated_call good good' points (Admit side w) = Admit side w
-stated_call good good' points (Strike side place) = Strike side place
-stated_call good good' points Settle = Settle
-stated_call good good' points Reopen = Reopen
-stated_call good good' points (Ask question) = Ask (stated_question good good' points question)
+abbrev pub stated_call : {P S : Type 0} → Meaning P S →
+    Call (Bor (List ℕ)) (Question P S (Bor (List ℕ))) → StatedCall
+stated_call meaning (Start n) = Start n
+stated_call meaning (Read file) = Read file.now
+stated_call meaning (Admit side w) = Admit side w
+stated_call meaning (Strike side place) = Strike side place
+stated_call meaning Settle = Settle
+stated_call meaning Reopen = Reopen
+stated_call meaning (Ask question) = Ask (stated_question meaning question)
 
 -- an answer of the code
 abbrev pub answered : Answer → Reply × Lent

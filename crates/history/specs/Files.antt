@@ -8,12 +8,13 @@ use Rattle.planfile.specs.File.{read_file}
 use Rattle.page.specs.Page.{page}
 use Rattle.history.specs.BestAndEqual.{BestGeneratorsAndEqualAnswers}
 
--- the page of what a file holds is written, of a plan with best generators and equal answers; or the refusal is told, and
--- memory is as before
+-- What is returned for a file, with memory before and after: its refusal, and memory is as it was; or the page
+-- of its plan is written, which has best generators and equal answers.
 abbrev pub IsPaged : Arithmetic → Result Content Refusal → List ℕ → List ℕ → Result ℕ Refusal → Type 0
 IsPaged A (Err e) before now r = (r ≡ Err e) × (now ≡ before)
 IsPaged A (Ok p) before now r =
-    (r ≡ wrote (page A p) before) × (now ≡ holding (page A p) before) × BestGeneratorsAndEqualAnswers A p
+    (r ≡ wrote (page A p) before) × (now ≡ holding (page A p) before)
+    × BestGeneratorsAndEqualAnswers A p
 
 -- the same of a plan file
 abbrev pub IsPageOfFile : Arithmetic → List ℕ → List ℕ → List ℕ → Result ℕ Refusal → Type 0

@@ -1,10 +1,11 @@
 -- What a settled plan can be asked, and what it answers.
 use Rattle.std.specs.Borrow.{Bor}
-use Rattle.std.specs.Prelude.{ℕ, Bool, true, if◌then◌else◌, List, length, Ok, Err, ◌==◌}
+use Rattle.std.specs.Prelude.{ℕ, Bool, true, if◌then◌else◌, List, length, Ok, Err, Result, ◌==◌}
 use Rattle.levels.specs.Arithmetic.{Arithmetic}
 use Rattle.preferences.specs.Relation.{Relation}
 use Rattle.aliasing.specs.Pattern.{pattern, resolution}
 use Rattle.aliasing.specs.Clear.{clear_bytes}
+use Rattle.contents.specs.declared.refusal.Refusal.{Refusal}
 use Rattle.contents.specs.declared.refusal.Refusal.TheVariants.{Memory}
 use Rattle.contents.specs.Content.{Content, side_of, word_at}
 use Rattle.contents.specs.Memory.{both_fit, holding, holding_if, holding_ok, wrote, wrote_ok}
@@ -44,6 +45,10 @@ in_counts xs m = (Written (wrote xs m.counts), record m { counts = holding xs m.
 abbrev pub in_words : List ℕ → Lent → Reply × Lent
 in_words xs m = (Written (wrote xs m.words), record m { words = holding xs m.words })
 
+-- the same of words that may be refused before memory is looked at
+abbrev pub in_words_ok : Result (List ℕ) Refusal → Lent → Reply × Lent
+in_words_ok words m = (Written (wrote_ok words m.words), record m { words = holding_ok words m.words })
+
 -- words and as many counts, where both fit
 abbrev pub in_words_and_counts : List ℕ → List ℕ → Lent → Reply × Lent
 in_words_and_counts xs ys m =
@@ -65,33 +70,42 @@ answer A (ScoredGenerators side s) p m =
 answer A Pattern p m = in_counts (pattern A p.factors (defined A p)) m
 answer A Resolution p m = (Reply.Resolution (resolution A p.factors (defined A p)), m)
 answer A (AliasMember w k) p m = (Code (alias_member A w k p), m)
-answer A (AliasSet w) p m =
-    (Written (wrote_ok (alias_set_of A w p) m.words), record m { words = holding_ok (alias_set_of A w p) m.words })
+answer A (AliasSet w) p m = in_words_ok (alias_set_of A w p) m
 answer A Page p m = in_bytes (page A p) m
 answer A ClearPairs p m =
     let bytes = clear_bytes p.factors p.defining in
     (Written (wrote_ones bytes m.bytes), record m { bytes = holding bytes m.bytes })
 answer A (Run k) p m = (Code (run_of k p), m)
-answer A (Runs first count) p m =
-    (Written (wrote_ok (runs_from first count p) m.words), record m { words = holding_ok (runs_from first count p) m.words })
+answer A (Runs first count) p m = in_words_ok (runs_from first count p) m
 answer A (BlockNumber run ws) p m = (Block (block_of run ws p), m)
 
+-- what the preferences of the code mean
+pub record Meaning (P S : Type 0) : Type 0 where
+  pub good : P → Relation
+  pub scoring : S → Scoring
+
+abbrev pub meaning_by : {P S : Type 0} → (P → Relation) → (S → Relation) → (S → ℕ → ℕ → ℕ) → Meaning P S
+meaning_by good good' points = record {
+  good = good;
+  scoring = λ s. record { good = good' s; points = points s };
+}
+
 -- a question of the code as it is stated, by what its preferences mean
-abbrev pub stated_question : {P S : Type 0} → (P → Relation) → (S → Relation) → (S → ℕ → ℕ → ℕ) → Question P S (Bor (List ℕ)) → StatedQuestion
-stated_question good good' points Factors = Factors
-stated_question good good' points Counts = Counts
-stated_question good good' points (Word side place) = Word side place
-stated_question good good' points (WordList side) = WordList side
-stated_question good good' points File = File
-stated_question good good' points (Generators side preference) = Generators side (good preference)
-stated_question good good' points (ScoredGenerators side preference) =
-    ScoredGenerators side (record { good = good' preference; points = points preference })
-stated_question good good' points Pattern = Pattern
-stated_question good good' points Resolution = Resolution
-stated_question good good' points (AliasMember w m) = AliasMember w m
-stated_question good good' points (AliasSet w) = AliasSet w
-stated_question good good' points Page = Page
-stated_question good good' points ClearPairs = ClearPairs
-stated_question good good' points (Run m) = Run m
-stated_question good good' points (Runs first count) = Runs first count
-stated_question good good' points (BlockNumber run ws) = BlockNumber run ws.now
+abbrev pub stated_question : {P S : Type 0} → Meaning P S → Question P S (Bor (List ℕ)) → StatedQuestion
+stated_question meaning Factors = Factors
+stated_question meaning Counts = Counts
+stated_question meaning (Word side place) = Word side place
+stated_question meaning (WordList side) = WordList side
+stated_question meaning File = File
+stated_question meaning (Generators side preference) = Generators side (meaning.good preference)
+stated_question meaning (ScoredGenerators side preference) =
+    ScoredGenerators side (meaning.scoring preference)
+stated_question meaning Pattern = Pattern
+stated_question meaning Resolution = Resolution
+stated_question meaning (AliasMember w m) = AliasMember w m
+stated_question meaning (AliasSet w) = AliasSet w
+stated_question meaning Page = Page
+stated_question meaning ClearPairs = ClearPairs
+stated_question meaning (Run m) = Run m
+stated_question meaning (Runs first count) = Runs first count
+stated_question meaning (BlockNumber run ws) = BlockNumber run ws.now

@@ -13,8 +13,9 @@ use Rattle.history.specs.declared.question.Question.TheVariants.{Generators, Sco
 use Rattle.history.specs.declared.question.Reply.{Reply}
 use Rattle.history.specs.declared.question.Reply.TheVariants.{Changed, Factors, Counts, Code, Written, Resolution, Block as BlockNumber}
 use Rattle.history.specs.Lent.{Lent}
-use Rattle.history.specs.Questions.{answer, in_bytes, in_counts, in_words, in_words_and_counts}
-use Rattle.history.specs.Calls.{StatedCall, answers, new, plan_after, settled_state}
+use Rattle.history.specs.Questions.{Scoring, answer, in_bytes, in_counts, in_words, in_words_and_counts}
+use Rattle.history.specs.States.{settled_state}
+use Rattle.history.specs.Calls.{StatedCall, answers, new, plan_after}
 
 -- a content of n factors
 abbrev pub of_factors : ℕ → List ℕ → List ℕ → Content
@@ -29,6 +30,7 @@ abbrev pub number_or_refusal : Result ℕ Refusal → Result ℕ ℕ
 number_or_refusal (Ok x) = Ok x
 number_or_refusal (Err e) = Err (number_of e)
 
+-- and of a reply of one number; of counts and a resolution the first
 abbrev pub number_in : Reply → Result ℕ ℕ
 number_in (Changed (Ok u)) = Ok 0
 number_in (Changed (Err e)) = Err (number_of e)
@@ -67,6 +69,10 @@ four = of_factors 4 (21 ∷ 73 ∷ []) []
 abbrev pub costs : List ℕ
 costs = 1 ∷ 5 ∷ 1 ∷ []
 
+-- cheapest by these costs, with its scores
+abbrev pub by_costs : Scoring
+by_costs = record { good = cheapest two costs; points = cost_score two costs }
+
 -- the page of the eight factors
 abbrev pub printed : List ℕ
 printed =
@@ -83,23 +89,27 @@ pub record ReferencePlans : Type 0 where
   pub alias_set_of_six : (m : Lent) →
       answer two (AliasSet 6) eight m ≡ in_words (6 ∷ 33 ∷ 77 ∷ 106 ∷ 147 ∷ 180 ∷ 216 ∷ 255 ∷ []) m
   pub members_of_six :
-      map (λ k. number_in (answer two (AliasMember 6 k) eight nothing_lent).0) (0 ∷ 1 ∷ 2 ∷ 3 ∷ 4 ∷ 5 ∷ 6 ∷ 7 ∷ 8 ∷ [])
+      map (λ k. number_in (answer two (AliasMember 6 k) eight nothing_lent).0)
+      (0 ∷ 1 ∷ 2 ∷ 3 ∷ 4 ∷ 5 ∷ 6 ∷ 7 ∷ 8 ∷ [])
       ≡ Ok 6 ∷ Ok 33 ∷ Ok 77 ∷ Ok 106 ∷ Ok 147 ∷ Ok 180 ∷ Ok 216 ∷ Ok 255 ∷ Err 12 ∷ []
   pub cheapest_blocks : (m : Lent) →
-      answer two (ScoredGenerators Block (record { good = cheapest two costs; points = cost_score two costs })) costly m
+      answer two (ScoredGenerators Block by_costs) costly m
       ≡ in_words_and_counts (5 ∷ 3 ∷ []) (2 ∷ 6 ∷ []) m
   pub three_level_pattern : (m : Lent) → answer three Pattern four m ≡ in_counts (0 ∷ 0 ∷ 4 ∷ 0 ∷ []) m
   pub three_level_shortest : (m : Lent) →
       answer three (Generators Defining (shortest three)) four m ≡ in_words (21 ∷ 73 ∷ []) m
   pub runs_of_three :
-      numbers two (Start 3 ∷ Admit Defining 7 ∷ Settle ∷ Ask (Run 0) ∷ Ask (Run 1) ∷ Ask (Run 2) ∷ Ask (Run 3) ∷ Ask (Run 4) ∷ [])
+      numbers two (Start 3 ∷ Admit Defining 7 ∷ Settle ∷ Ask (Run 0) ∷ Ask (Run 1)
+      ∷ Ask (Run 2) ∷ Ask (Run 3) ∷ Ask (Run 4) ∷ [])
       ≡ Ok 0 ∷ Ok 0 ∷ Ok 0 ∷ Ok 0 ∷ Ok 3 ∷ Ok 5 ∷ Ok 6 ∷ Err 12 ∷ []
   pub two_runs_of_three : (m : Lent) → answer two (Runs 1 2) (of_factors 3 (7 ∷ []) []) m ≡ in_words (3 ∷ 5 ∷ []) m
   pub known_words :
       numbers two (Start 6 ∷ Admit Defining 0 ∷ Admit Defining 5 ∷ Admit Block 5 ∷ Strike Defining 2 ∷ [])
       ≡ Ok 0 ∷ Err 3 ∷ Ok 0 ∷ Err 3 ∷ Err 5 ∷ []
-  pub six_factors : numbers two (Start 6 ∷ Admit Defining 63 ∷ Admit Defining 64 ∷ []) ≡ Ok 0 ∷ Ok 0 ∷ Err 2 ∷ []
+  pub six_factors :
+      numbers two (Start 6 ∷ Admit Defining 63 ∷ Admit Defining 64 ∷ []) ≡ Ok 0 ∷ Ok 0 ∷ Err 2 ∷ []
   pub one_factor_of_three_levels :
-      numbers three (Start 1 ∷ Admit Defining 3 ∷ Admit Defining 4 ∷ Admit Defining 2 ∷ []) ≡ Ok 0 ∷ Err 2 ∷ Err 2 ∷ Ok 0 ∷ []
+      numbers three (Start 1 ∷ Admit Defining 3 ∷ Admit Defining 4 ∷ Admit Defining 2 ∷ [])
+      ≡ Ok 0 ∷ Err 2 ∷ Err 2 ∷ Ok 0 ∷ []
   pub starts : numbers two (Start 0 ∷ Start 33 ∷ Start 32 ∷ []) ≡ Err 1 ∷ Err 1 ∷ Ok 0 ∷ []
   pub three_level_sum : word_sum three 4 21 73 ≡ 82

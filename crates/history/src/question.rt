@@ -1,7 +1,7 @@
 // What a settled plan can be asked, and what it replies.
 ghost use Rattle.std.specs.Prelude.{◌≡◌, MatchOption, is_some};
 ghost use Rattle.history.specs.Lent.{lent};
-ghost use Rattle.history.specs.Questions.{answer, exists, stated_question};
+ghost use Rattle.history.specs.Questions.{answer, exists, meaning_by, stated_question};
 
 use crate::memory::Memory;
 use contents::{Refusal, Side, store};
@@ -75,8 +75,9 @@ pub fn ask<L: Levels, P: Preference<L>, S: Scored<L>>(
     question: &Question<P, S, &[u64]>,
     memory: &mut Memory,
 ) -> Option<Reply>
-    ensures exists { is_some result ≡ exists L.model (stated_question P.good S.good S.points question.now) }
-    ensures answer { let asked = stated_question P.good S.good S.points question.now in
+    ensures exists { let asked = stated_question (meaning_by P.good S.good S.points) question.now in
+        is_some result ≡ exists L.model asked }
+    ensures answer { let asked = stated_question (meaning_by P.good S.good S.points) question.now in
         MatchOption result
         (lent memory.new ≡ lent memory.old)
         (λ reply. (reply, lent memory.new) ≡ answer L.model asked plan.now (lent memory.old)) }

@@ -1,6 +1,7 @@
 use Rattle.std.proofs.Common.{◌≡◌, ◌++◌, map, drop}
 use Rattle.history.specs.Calls.{answered, answers, memory_after, new, plan_after, stated_call}
 use Rattle.history.specs.Lent.{lent}
+use Rattle.history.specs.Questions.{meaning_by}
 use Rattle.history.specs.States.{state_of}
 use Rattle.history.proofs.carry_out.carry_out.Given as goal
 
@@ -8,7 +9,7 @@ use Rattle.history.proofs.carry_out.carry_out.Given as goal
 abbrev pub invariant-loop-call : goal.invariant-loop-call
 invariant-loop-call g l =
     let A = g.L.Levels.model in
-    let stated = stated_call g.P.Preference.good g.S.Preference.good g.S.Scored.points in
+    let stated = stated_call (meaning_by g.P.Preference.good g.S.Preference.good g.S.Scored.points) in
     let rest = map stated (drop l.call-index l.calls) in
     let all = map stated l.calls in
     let now = lent l.memory in
