@@ -114,8 +114,8 @@ impl SettledPlan<TwoLevels> {
         Ok(runs::fill_runs(self.factors(), words, first, &mut memory[..count]))
     }
 
-    /// How many runs there are, at most 2 to the power of 32: each defining word halves their number.
-    pub fn run_count(&self) -> u64
+    // How many runs there are, at most 2 to the power of 32: each defining word halves their number.
+    fn run_count(&self) -> u64
         ensures count { result ≡ length (runs_of self.now) }
         ensures few { result ≤ 2 ^ 32 }
     {

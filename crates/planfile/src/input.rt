@@ -13,8 +13,8 @@ use std::io::{ErrorKind, Read};
 /// A file of so many bytes is read, or refused, as one that goes on: it is longer than every plan file.
 pub const ENOUGH: usize = LONGEST + 1;
 
-/// The first bytes of an input, as many as decide what it is read as, and no more: all, where there are fewer. An error is
-/// the reader's; a read that was interrupted is made again.
+/// The first bytes of an input, as many as decide what it is read as, and no more: all, where there are fewer. A read that
+/// was interrupted is made again; an error is the reader's, or comes after 2^64 turns.
 pub fn deciding_bytes<R: Read>(reader: &mut R) -> io::Result<Bounded<u8, ENOUGH>>
     ensures first { IfOk result (λ first. IfSome (R.remaining reader.old) (λ input.
         items_of first ≡ take ENOUGH input)) }

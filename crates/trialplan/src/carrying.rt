@@ -103,3 +103,20 @@ fn write_files(rt: &impl Files, lines: &[Answered<'_>]) -> Result<()> {
     }
     Ok(())
 }
+
+#[cfg(test)]
+mod tests {
+    use super::*;
+    use std::io::Read;
+    use std::test::Fail;
+
+    #[test]
+    fn fronts_of_inputs(rt: HostRuntime) -> Result<(), Fail> {
+        assert_eq!(rt; deciding_bytes(&mut b"".as_slice())?.as_slice(), b"".as_slice());
+        assert_eq!(rt; deciding_bytes(&mut b"DWF".as_slice())?.as_slice(), b"DWF".as_slice());
+        let mut parts = b"DW".as_slice().chain(b"F\x01".as_slice());
+        assert_eq!(rt; deciding_bytes(&mut parts)?.as_slice(), b"DWF\x01".as_slice());
+        assert_eq!(rt; deciding_bytes(&mut [7u8; 300].as_slice())?.len(), ENOUGH);
+        Ok(())
+    }
+}

@@ -35,7 +35,7 @@ Calls on a settled plan:
 Calls on a settled plan of two levels:
   clear                           how many pairs of factors are clear, and which
   run NUMBER                      a run, from 0
-  runs FIRST COUNT                so many runs from one on
+  runs FIRST COUNT                so many runs from one on, at most 65536 at once
   block-number RUN WORD..         the block number of a run under some words
 
 SIDE        defining | block
@@ -48,5 +48,10 @@ SCORE       shortest | cheapest COST..
 COST        from 0 to 65535; at most 32, factor 1 first; 0 for those left out
 
 For each call its line is printed, a colon, and the answer: `done`, numbers, `none`
-without a resolution, or `refused` and the number of the refusal. The page stands
-below its line.";
+without a resolution, or `refused` and the number of the refusal: 1 factors not 1 to
+32, 2 illegal code, 3 generated already, 4 past the limit of words, 5 no word at this
+place, 6 memory too short, 7 file cut short, 8 no mark, 9 another version, 10 other
+levels, 11 bytes behind the file, 12 past the last. The page stands below its line.
+
+Files are read before anything is carried out. The status is 0 where all was, and 1
+where a line is not understood, a file fails, or there is no such call on the plan.";

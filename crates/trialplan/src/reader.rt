@@ -198,7 +198,7 @@ impl<'a> Reader<'a> {
 
     // A rule by its name.
     fn rule(&mut self) -> Result<One, ScriptError<'a>> {
-        let expected = "a preference";
+        let expected = "`shortest`, `longest`, `cheapest` or `least-aberration`";
         match self.word(expected)? {
             "shortest" => Ok(One::Plain(Rule::Score(Score::Shortest))),
             "longest" => Ok(One::Plain(Rule::Score(Score::Shortest)).turned()),

@@ -1,5 +1,5 @@
 // Words as a script writes them: a code in base ten, or letters.
-ghost use Rattle.std.specs.Prelude.{◌≤◌};
+ghost use Rattle.std.specs.Prelude.{◌≡◌};
 
 use page::factor_of;
 
@@ -13,7 +13,8 @@ pub enum LevelCount {
 impl LevelCount {
     /// How many bits of a code a digit takes.
     fn bits(self) -> u8
-        ensures { 1 ≤ result × result ≤ 2 }
+        ensures two { self ≡ LevelCount.Two → result ≡ 1 }
+        ensures three { self ≡ LevelCount.Three → result ≡ 2 }
     {
         match self {
             LevelCount::Two => 1,
