@@ -1,5 +1,7 @@
 pub mod Best
 pub mod Greedy
-pub mod Tops
 pub mod Sums
-pub mod Turns
+pub mod Sieve
+pub mod Rows
+pub mod Offers
+pub mod BestOf

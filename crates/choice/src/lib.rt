@@ -10,7 +10,7 @@ mod judge;
 
 pub use chosen::{Chosen, MOST};
 use judge::Judge;
-use levels::{Basis, Levels};
+use levels::Levels;
 use preferences::Preference;
 
 // The generators of what a base list and further words generate together, beyond the base list: at each step the best
@@ -26,16 +26,5 @@ pub fn choose<L: Levels, P: Preference<L>>(
     ensures promise { length further.now ≤ 16 → BestGenerators L.Levels.model (P.Preference.good preference.now) n base.now further.now (chosen_words result) }
     ensures same { DependsOnlyOnWords L.Levels.model (P.Preference.good preference.now) n base.now further.now }
 {
-    let judge = Judge::<L, P>::new(preference, n, base);
-    let mut known = Basis::new();
-    known.admit_all::<L>(n, base);
-    let mut chosen = Chosen::new();
-    for _ in 0..MOST {
-        let Some(word) = judge.best_fresh(&known, further) else {
-            break;
-        };
-        known.admit::<L>(n, word);
-        chosen.push(word);
-    }
-    chosen
+    Judge::<L, P>::new(preference, n, base, further).best()
 }

@@ -1,2 +1,3 @@
 pub mod Points
 pub mod Widths
+pub mod Aliases

@@ -18,6 +18,10 @@ impl<L: Levels> Preference<L> for LeastAberration {
     // the order of counts
     ghost lawful = { λ self. least_aberration_laws L.Levels.model L.Levels.lawful };
 
+    fn equates_aliases(&self) -> bool {
+        true
+    }
+
     fn prefer(&self, base: &Span<L>, a: u64, b: u64) -> Verdict {
         if base.words().is_empty() {
             longer::<L>(a, b)

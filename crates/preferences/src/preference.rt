@@ -2,7 +2,8 @@
 ghost use Rattle.std.specs.Prelude.{◌≡◌, ℕ, true, false, ◌&&◌, nat_le};
 ghost use Rattle.levels.specs.Words.{legal};
 ghost use Rattle.levels.specs.Space.{Word};
-ghost use Rattle.preferences.specs.Relation.{Relation, PreferenceLaws, all_legal, fair};
+ghost use Rattle.preferences.specs.Relation.{Relation, PreferenceLaws, EqualAliases, all_legal, fair};
+ghost use Rattle.std.specs.Bool.{OnTrue};
 ghost use Rattle.preferences.specs.Verdicts.{of_order, verdict, verdict_of, turned, Scores};
 
 use levels::{Levels, Span};
@@ -62,6 +63,13 @@ pub trait Preference<L: Levels> {
     // Legal words are premises: a type that carried this would be of one number of factors, and each caller would make two of them.
     fn prefer(&self, base: &Span<L>, a: u64, b: u64) -> Verdict
         ensures { fair L.Levels.model base.now.factors base.now.words.now ≡ true → Word L.Levels.model base.now.factors a → Word L.Levels.model base.now.factors b → result ≡ verdict_of (good self.now base.now.factors base.now.words.now a b) (good self.now base.now.factors base.now.words.now b a) };
+
+    // Whether words of one alias set over the base list are known to be equal, so that a search may judge one word of each set.
+    fn equates_aliases(&self) -> bool
+        ensures { OnTrue result (EqualAliases L.Levels.model (good self.now)) }
+    {
+        false
+    }
 
     ghost lawful: { (self : Self) → PreferenceLaws L.Levels.model (good self) };
 }

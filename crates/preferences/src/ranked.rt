@@ -17,6 +17,10 @@ impl<L: Levels, P: Preference<L>, Q: Preference<L>> Preference<L> for FirstThenS
     // the laws of the two preferences
     ghost lawful = { λ self. first_then_second_laws L.Levels.model (P.Preference.good self.first) (Q.Preference.good self.second) (P.Preference.lawful self.first) (Q.Preference.lawful self.second) };
 
+    fn equates_aliases(&self) -> bool {
+        self.first.equates_aliases() && self.second.equates_aliases()
+    }
+
     fn prefer(&self, base: &Span<L>, a: u64, b: u64) -> Verdict {
         match self.first.prefer(base, a, b) {
             Verdict::Equal => self.second.prefer(base, a, b),

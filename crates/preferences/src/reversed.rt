@@ -18,6 +18,10 @@ impl<L: Levels, P: Preference<L>> Preference<L> for Reversed<P> {
     // the laws of the preference
     ghost lawful = { λ self. reversed_laws L.Levels.model (P.Preference.good self.0) (P.Preference.lawful self.0) };
 
+    fn equates_aliases(&self) -> bool {
+        self.0.equates_aliases()
+    }
+
     fn prefer(&self, base: &Span<L>, a: u64, b: u64) -> Verdict {
         self.0.prefer(base, a, b).turned()
     }
