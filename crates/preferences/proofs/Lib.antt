@@ -1,3 +1,4 @@
 pub mod Points
+pub mod Tallies
 pub mod Widths
 pub mod Aliases

@@ -1,4 +1,5 @@
 pub mod Built
+pub mod Candidates
 pub mod Relation
 pub mod Verdicts
 pub mod Counts

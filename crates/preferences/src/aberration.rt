@@ -6,7 +6,9 @@ ghost use Rattle.preferences.specs.Built.{least_aberration, no_more, all_tallies
 ghost use Rattle.preferences.specs.Verdicts.{verdict_of};
 ghost use Rattle.preferences.specs.Counts.{least_aberration_laws};
 
+use crate::candidate::Candidate;
 use crate::preference::{Preference, Verdict, smaller};
+use levels::span::Tally;
 use levels::{Levels, Span};
 
 #[derive(Clone, Copy)]
@@ -26,7 +28,25 @@ impl<L: Levels> Preference<L> for LeastAberration {
         if base.words().is_empty() {
             longer::<L>(a, b)
         } else {
-            fewer(base, a, b)
+            fewer(&base.tally(a), &base.tally(b))
+        }
+    }
+
+    fn ready(&self, base: &Span<L>, word: u64) -> Candidate {
+        let tally = if base.words().is_empty() {
+            None
+        } else {
+            Some(base.tally(word))
+        };
+        Candidate { word, tally }
+    }
+
+    fn prefer_ready(&self, base: &Span<L>, a: &Candidate, b: &Candidate) -> Verdict {
+        match (&a.tally, &b.tally) {
+            (Some(first), Some(second)) => fewer(first, second),
+            (Some(first), None) => fewer(first, &base.tally(b.word)),
+            (None, Some(second)) => fewer(&base.tally(a.word), second),
+            (None, None) => self.prefer(base, a.word, b.word),
         }
     }
 }
@@ -38,10 +58,9 @@ fn longer<L: Levels>(a: u64, b: u64) -> Verdict
     smaller(u64::from(L::length(b)), u64::from(L::length(a)))
 }
 
-// Of two words, the one whose aliases have fewer of the first length in which they differ.
-// Legal words are premises, as in `prefer`.
-fn fewer<L: Levels>(base: &Span<L>, a: u64, b: u64) -> Verdict
-    ensures { Word L.Levels.model base.now.factors a → Word L.Levels.model base.now.factors b → result ≡ verdict_of (no_more (all_tallies L.Levels.model base.now.factors base.now.words.now a) (all_tallies L.Levels.model base.now.factors base.now.words.now b)) (no_more (all_tallies L.Levels.model base.now.factors base.now.words.now b) (all_tallies L.Levels.model base.now.factors base.now.words.now a)) }
+// Of two tallies, the one that is smaller where they first differ.
+fn fewer(a: &Tally, b: &Tally) -> Verdict
+    ensures { result ≡ verdict_of (no_more a.now b.now) (no_more b.now a.now) }
 {
-    Verdict::from(base.tally(a).cmp(&base.tally(b)))
+    Verdict::from(a.cmp(b))
 }

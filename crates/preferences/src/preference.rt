@@ -4,8 +4,10 @@ ghost use Rattle.levels.specs.Words.{legal};
 ghost use Rattle.levels.specs.Space.{Word};
 ghost use Rattle.preferences.specs.Relation.{Relation, PreferenceLaws, EqualAliases, all_legal, fair};
 ghost use Rattle.std.specs.Bool.{OnTrue};
+ghost use Rattle.preferences.specs.Candidates.{IsReady};
 ghost use Rattle.preferences.specs.Verdicts.{of_order, verdict, verdict_of, turned, Scores};
 
+use crate::candidate::Candidate;
 use levels::{Levels, Span};
 use std::cmp::Ordering;
 
@@ -63,6 +65,30 @@ pub trait Preference<L: Levels> {
     // Legal words are premises: a type that carried this would be of one number of factors, and each caller would make two of them.
     fn prefer(&self, base: &Span<L>, a: u64, b: u64) -> Verdict
         ensures { fair L.Levels.model base.now.factors base.now.words.now ≡ true → Word L.Levels.model base.now.factors a → Word L.Levels.model base.now.factors b → result ≡ verdict_of (good self.now base.now.factors base.now.words.now a b) (good self.now base.now.factors base.now.words.now b a) };
+
+    // A word that many questions are asked of, with whatever these would else work out again and again.
+    fn ready(&self, base: &Span<L>, word: u64) -> Candidate
+        ensures word { result.word ≡ word }
+        ensures ready { IsReady L.model base.now.factors base.now.words.now result }
+    {
+        Candidate::new(word)
+    }
+
+    // What `prefer` says of two candidates.
+    fn prefer_ready(&self, base: &Span<L>, a: &Candidate, b: &Candidate) -> Verdict
+        ensures {
+            let n = base.now.factors in
+            let words = base.now.words.now in
+            fair L.model n words ≡ true →
+            Word L.model n a.now.word →
+            Word L.model n b.now.word →
+            IsReady L.model n words a.now →
+            IsReady L.model n words b.now →
+            result ≡ verdict_of (good self.now n words a.now.word b.now.word) (good self.now n words b.now.word a.now.word)
+        }
+    {
+        self.prefer(base, a.word, b.word)
+    }
 
     // Whether words of one alias set over the base list are known to be equal, so that a search may judge one word of each set.
     fn equates_aliases(&self) -> bool

@@ -2,6 +2,7 @@
 ghost use Rattle.preferences.specs.Built.{first_then_second};
 ghost use Rattle.preferences.specs.Laws.{first_then_second_laws};
 
+use crate::candidate::Candidate;
 use crate::preference::{Preference, Verdict};
 use levels::{Levels, Span};
 
@@ -24,6 +25,18 @@ impl<L: Levels, P: Preference<L>, Q: Preference<L>> Preference<L> for FirstThenS
     fn prefer(&self, base: &Span<L>, a: u64, b: u64) -> Verdict {
         match self.first.prefer(base, a, b) {
             Verdict::Equal => self.second.prefer(base, a, b),
+            decided => decided,
+        }
+    }
+
+    // What the first works out is asked of every word, what the second does of equal words alone.
+    fn ready(&self, base: &Span<L>, word: u64) -> Candidate {
+        self.first.ready(base, word)
+    }
+
+    fn prefer_ready(&self, base: &Span<L>, a: &Candidate, b: &Candidate) -> Verdict {
+        match self.first.prefer_ready(base, a, b) {
+            Verdict::Equal => self.second.prefer_ready(base, a, b),
             decided => decided,
         }
     }

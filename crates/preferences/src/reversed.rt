@@ -2,6 +2,7 @@
 ghost use Rattle.preferences.specs.Built.{reversed};
 ghost use Rattle.preferences.specs.Laws.{reversed_laws};
 
+use crate::candidate::Candidate;
 use crate::preference::{Preference, Verdict};
 use crate::shortest::Shortest;
 use levels::{Levels, Span};
@@ -24,5 +25,13 @@ impl<L: Levels, P: Preference<L>> Preference<L> for Reversed<P> {
 
     fn prefer(&self, base: &Span<L>, a: u64, b: u64) -> Verdict {
         self.0.prefer(base, a, b).turned()
+    }
+
+    fn ready(&self, base: &Span<L>, word: u64) -> Candidate {
+        self.0.ready(base, word)
+    }
+
+    fn prefer_ready(&self, base: &Span<L>, a: &Candidate, b: &Candidate) -> Verdict {
+        self.0.prefer_ready(base, a, b).turned()
     }
 }
