@@ -1,4 +1,4 @@
-pub mod Best
+pub mod BestWord
 pub mod Greedy
 pub mod Sums
 pub mod Sieve

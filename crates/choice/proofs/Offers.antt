@@ -1,5 +1,5 @@
 -- The words that are offered, one set after the other.
-use Rattle.std.proofs.Common.{◌≡◌, ℕ, ◌+◌, ◌<◌, ◌≤◌, Bool, List, [], ◌∷◌, length, get_or, take, drop, ◌-◌, min, true, false, ◌⊎◌, ◌++◌, sym, refl, ap, ◌∙◌, subst, inl, inr, arith}
+use Rattle.std.proofs.Common.{◌≡◌, ℕ, zero, suc, ◌+◌, ◌<◌, ◌≤◌, Bool, List, [], ◌∷◌, length, get_or, take, drop, ◌-◌, min, true, false, ◌⊎◌, ◌++◌, sym, refl, ap, ◌∙◌, subst, inl, inr, arith}
 use Rattle.std.proofs.lemmas.List.{take_rest, take-append-drop, get_or-drop, length-drop, append-nil}
 use Rattle.levels.specs.Arithmetic.{Arithmetic, Lawful}
 use Rattle.levels.specs.Words.{word_sum, word_multiple, code_sum}
@@ -18,7 +18,7 @@ use Rattle.levels.proofs.Generation.{space, generates_word, generates_zero, gene
 use Rattle.levels.specs.Space.{VectorSpace}
 use Rattle.std.specs.Bool.{OnTrue}
 use Rattle.std.proofs.Common.{cond}
-use Rattle.std.proofs.lemmas.Bool.{cases_Bool, cond-true, cond-false}
+use Rattle.std.proofs.lemmas.Bool.{cases_Bool, cases_eq, cond-true, cond-false}
 use Rattle.std.proofs.lemmas.List.{take-take, drop-take}
 use Rattle.preferences.specs.Relation.{EqualAliases, fair}
 use Rattle.levels.specs.Basis.{LeastAlias}
@@ -32,7 +32,7 @@ use Rattle.choice.proofs.Rows.{same_from_generated}
 use Rattle.choice.proofs.Greedy.{Order, judged_order, same_push, generators_length, best_generators, same_generators}
 use Rattle.preferences.specs.Relation.{Relation, PreferenceLaws, judged}
 use Rattle.choice.proofs.Sums.{leaf_word, spread_word, coset_word, led-fresh, fresh-led}
-use Rattle.choice.proofs.Sieve.{below_split, below_join, offered_none, offered_same, offered_both, offered_more, kept_generators}
+use Rattle.choice.proofs.Sieve.{below_split, below_join, offered_none, offered_same, offered_both, offered_more, kept_generators, offered_stays}
 
 -- a list with a first word is that word and the others
 pub words_head : (ws : List ℕ) → 1 ≤ length ws → get_or ws 0 0 ∷ take (length ws - 1) (drop 1 ws) ≡ ws
@@ -95,6 +95,12 @@ pub shared_base : (A : Arithmetic) → Lawful A → (n : ℕ) (base known : List
 shared_base A L n base known spans true g G = (same_from_generated A L n known base spans g).0 G
 shared_base A L n base known spans false g G = subst (λ us. Generates A n us g) (append-nil base) (any_right A L n (vector_space A L n) base [] g G)
 
+zero_more : (k : ℕ) → k ≡ k + 0
+zero_more k = omega arith
+
+one_more : (k d : ℕ) → k + d + 1 ≡ k + suc d
+one_more k d = omega arith
+
 module _ (A : Arithmetic) (L : Lawful A) (good : Relation) (laws : PreferenceLaws A good) (n : ℕ) (room : ℕ) (base : List ℕ) where
   abbrev pub at_least : ℕ → ℕ → Bool
   at_least = judged A good n base
@@ -153,6 +159,24 @@ module _ (A : Arithmetic) (L : Lawful A) (good : Relation) (laws : PreferenceLaw
             ];
           }
 
+  -- a word behind as many kept words as there is room for changes nothing
+  pub behind_last : (ours : List ℕ) → Kept A n at_least room base ours → room ≤ length ours → (last w : ℕ) → last ≡ get_or ours (length ours - 1) 0 → Word A n w → NoLater at_least last w → After (λ y. y ≡ w) ours ours
+  behind_last ours k full last w is ww later =
+      offered_stays A L n at_least order room base ours w (length ours) k (omega arith) before (inr full)
+    where
+      before : (j : ℕ) → j < length ours → NoLater at_least (get_or ours j 0) w
+      before j l = elim (cases_eq j (length ours - 1)) [
+        | inl e ↦ subst (λ x. NoLater at_least x w) (is ∙ ap (λ i. get_or ours i 0) (sym e)) later
+        | inr d ↦ no_later_trans A n at_least order (get_or ours j 0) last w (k.words j l) (subst (Word A n) (sym is) (k.words (length ours - 1) (omega arith))) ww
+            (subst (NoLater at_least (get_or ours j 0)) (sym is) (k.sorted j (length ours - 1) (omega (arith, d)) (omega arith))) later
+      ]
+
+  -- nor do the words that are alike, if their smallest code does not
+  pub alias_behind : (shared : List ℕ) → ((g : ℕ) → Generates A n shared g → Generates A n base g) → ((a g : ℕ) → Word A n a → Generates A n shared g → (at_least a (word_sum A n a g) ≡ true) × (at_least (word_sum A n a g) a ≡ true)) →
+      (ours : List ℕ) → Kept A n at_least room base ours → room ≤ length ours → (last w r : ℕ) → last ≡ get_or ours (length ours - 1) 0 → Word A n w → LeastAlias A n shared w r → NoLater at_least last r → After (Coset A n shared w) ours ours
+  alias_behind shared inside law ours k full last w r is ww least later =
+      offered_alias shared inside law w r ww least ours ours (behind_last ours k full last r is (alias_word A L n (space_at A L n w ww) shared w r ww least) later)
+
   module _ (shared : List ℕ) where
     -- one word of a list more
     pub one_of_more : (ws : List ℕ) → AllWords A n ws → (k : ℕ) → k < length ws → (before mid after : List ℕ) → After (Below k (λ i w. (i < length ws) × Coset A n shared (get_or ws i 0) w)) before mid → After (Coset A n shared (get_or ws k 0)) mid after →
@@ -168,6 +192,22 @@ module _ (A : Arithmetic) (L : Lawful A) (good : Relation) (laws : PreferenceLaw
       leaf_more k sum l e before mid after p q =
           offered_more A L n at_least order room base k (Leaf A n shared leaves start) (leaf_word A L n leaves words shared start word) before mid after p
           (subst (λ v. After (Coset A n shared v) mid after) (leaf_value A L n leaves start word words k sum l e) q)
+
+      -- leaves more that change nothing
+      leaves_more : (k d : ℕ) (before mid : List ℕ) → After (Below k (Leaf A n shared leaves start)) before mid →
+          ((j : ℕ) → k ≤ j → j < k + d → After (Leaf A n shared leaves start j) mid mid) → After (Below (k + d) (Leaf A n shared leaves start)) before mid
+      leaves_more k zero before mid p q = subst (λ (i : ℕ). After (Below i (Leaf A n shared leaves start)) before mid) (zero_more k) p
+      leaves_more k (suc d) before mid p q =
+          subst (λ (i : ℕ). After (Below i (Leaf A n shared leaves start)) before mid) (one_more k d)
+          (offered_more A L n at_least order room base (k + d) (Leaf A n shared leaves start) (leaf_word A L n leaves words shared start word) before mid mid
+          (leaves_more k d before mid p (λ j l m. q j l (omega arith))) (q (k + d) (omega arith) (omega arith)))
+
+      -- the leaves from one on to another
+      pub leaves_behind : (k m : ℕ) → k ≤ m → (before mid : List ℕ) → After (Below k (Leaf A n shared leaves start)) before mid →
+          ((j : ℕ) → k ≤ j → j < m → After (Leaf A n shared leaves start j) mid mid) → After (Below m (Leaf A n shared leaves start)) before mid
+      leaves_behind k m l before mid p q =
+          let all : k + (m - k) ≡ m = omega arith in
+          subst (λ (i : ℕ). After (Below i (Leaf A n shared leaves start)) before mid) all (leaves_more k (m - k) before mid p (λ j from less. q j from (omega arith)))
 
       -- the sums by one level more
       pub spread_more : (level v next : ℕ) → next ≡ word_sum A n start (word_multiple A n level v) → (rest before mid after : List ℕ) →

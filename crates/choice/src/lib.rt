@@ -5,8 +5,11 @@ ghost use Rattle.std.specs.Prelude.{◌≡◌, ◌≤◌, length, take};
 ghost use Rattle.choice.specs.Choice.{generators, BestGenerators, DependsOnlyOnWords};
 ghost use Rattle.choice.specs.Chosen.{chosen_words};
 
+mod best;
 pub mod chosen;
 mod judge;
+mod progress;
+mod walk;
 
 pub use chosen::{Chosen, MOST};
 use judge::Judge;

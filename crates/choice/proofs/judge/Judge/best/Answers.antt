@@ -3,7 +3,7 @@ use Rattle.std.proofs.lemmas.List.{take_rest}
 use Rattle.levels.specs.Rows.{basis_rows}
 use Rattle.choice.specs.Chosen.{chosen_words}
 use Rattle.choice.specs.Search.{Below, OneOf, Led, LedAt, Kept, Offered}
-use Rattle.choice.specs.Judged.{order_of, OfferedTo, shared_rows}
+use Rattle.choice.specs.Judged.{order_of, OfferedTo, shared_rows, words_of}
 use Rattle.choice.proofs.Greedy.{judged_order}
 use Rattle.choice.proofs.Sieve.{kept_none}
 use Rattle.levels.proofs.Reduced.{space_at}
@@ -17,7 +17,7 @@ offer_all-requires-clause-kept g c =
     let s = c.args.self.now in
     let at_least = order_of A g.P.Preference.good s in
     let order = judged_order A (g.P.Preference.good s.preference.now) (g.met.P.Preference.lawful s.preference.now) s.factors s.base.words.now in
-    (subst (Kept A s.factors at_least s.room s.base.words.now) (sym c.nothing-best.ensures.words) (kept_none A g.met.L.Levels.lawful s.factors at_least order s.room s.base.words.now), c.nothing-best.ensures.fits, c.requires)
+    (subst (Kept A s.factors at_least s.room s.base.words.now) (sym c.start-progress.ensures.words) (kept_none A g.met.L.Levels.lawful s.factors at_least order s.room s.base.words.now), c.start-progress.ensures.beside, c.requires)
 
 -- the added rows were offered
 pub loop-i-init : goal.loop-i-init
@@ -28,12 +28,12 @@ loop-i-init g c =
     let k = c.len.result in
     let whole = basis_rows s.whole in
     let known = basis_rows s.known in
-    let after = c.offer_all.new.best in
+    let after = c.offer_all.new.progress in
     let same : take (length rows - k) (drop k rows) ≡ drop (length known) whole = take_rest rows k ∙ ap (λ (i : ℕ). drop i rows) c.len.ensures.count ∙ ap (drop (length known)) c.rows-rows.ensures in
-    let o = subst (λ (before : List ℕ). OfferedTo A g.P.Preference.good s (OneOf A s.factors (shared_rows s) (drop (length known) whole)) before after) c.nothing-best.ensures.words
-    (subst (λ (ws : List ℕ). OfferedTo A g.P.Preference.good s (OneOf A s.factors (shared_rows s) ws) (chosen_words c.nothing-best.result.words) after) same c.offer_all.ensures) in
+    let o = subst (λ (before : List ℕ). OfferedTo A g.P.Preference.good s (OneOf A s.factors (shared_rows s) (drop (length known) whole)) before after) c.start-progress.ensures.words
+    (subst (λ (ws : List ℕ). OfferedTo A g.P.Preference.good s (OneOf A s.factors (shared_rows s) ws) (words_of c.start-progress.result) after) same c.offer_all.ensures) in
     subst (λ (i : ℕ). OfferedTo A g.P.Preference.good s (λ y. OneOf A s.factors (shared_rows s) (drop (length known) whole) y ⊎ Below i (LedAt A s.factors whole (length known)) y) [] after) (sym c.len-i.ensures.count)
-    (led_none_behind A g.met.L.Levels.lawful (g.P.Preference.good s.preference.now) (g.met.P.Preference.lawful s.preference.now) s.factors s.room s.base.words.now (OneOf A s.factors (shared_rows s) (drop (length known) whole)) whole (length known) [] (chosen_words after.words) o.0, o.1)
+    (led_none_behind A g.met.L.Levels.lawful (g.P.Preference.good s.preference.now) (g.met.P.Preference.lawful s.preference.now) s.factors s.room s.base.words.now (OneOf A s.factors (shared_rows s) (drop (length known) whole)) whole (length known) [] (words_of after) o.0, o.1)
 
 -- the words led by one row more
 pub loop-i-preserved : goal.loop-i-preserved
@@ -54,11 +54,11 @@ loop-i-preserved g c =
     let good = g.P.Preference.good s.preference.now in
     let laws = g.met.P.Preference.lawful s.preference.now in
     let same = middle_same A L s.factors V whole shared from i front c.shared-from.ensures.front in
-    let led = subst (λ (us : List ℕ). OfferedTo A g.P.Preference.good s (Led A s.factors (take (i - from) (drop from us) ++ shared) (get_or us i 0)) (chosen_words c.loop-i.best.words) c.offer_led.new.best) c.rows-rows.ensures c.offer_led.ensures in
-    let o = led_same A L good laws s.factors s.room s.base.words.now (take (i - from) (drop from whole) ++ shared) (take i whole) (λ x. (same x).0) (λ x. (same x).1) (get_or whole i 0) word (chosen_words c.loop-i.best.words) (chosen_words c.offer_led.new.best.words) led.0 in (
+    let led = subst (λ (us : List ℕ). OfferedTo A g.P.Preference.good s (Led A s.factors (take (i - from) (drop from us) ++ shared) (get_or us i 0)) (words_of c.loop-i.progress) c.offer_led.new.progress) c.rows-rows.ensures c.offer_led.ensures in
+    let o = led_same A L good laws s.factors s.room s.base.words.now (take (i - from) (drop from whole) ++ shared) (take i whole) (λ x. (same x).0) (λ x. (same x).1) (get_or whole i 0) word (words_of c.loop-i.progress) (words_of c.offer_led.new.progress) led.0 in (
       led_row_behind A g.met.L.Levels.lawful (g.P.Preference.good s.preference.now) (g.met.P.Preference.lawful s.preference.now) s.factors s.room s.base.words.now
           (OneOf A s.factors (shared_rows s) (drop (length known) whole)) (added_words A L s.factors shared whole s.all.words (length known)) whole (length known) i (omega (arith, c.loop-i.auto.i, c.len-i.ensures.count)) word
-          [] (chosen_words c.loop-i.best.words) (chosen_words c.offer_led.new.best.words) c.loop-i.invariant.0 o,
+          [] (words_of c.loop-i.progress) (words_of c.offer_led.new.progress) c.loop-i.invariant.0 o,
       led.1,
     )
 
@@ -71,4 +71,4 @@ returns g c =
     let known = basis_rows s.known in
     let inside : length c.rows-rows.result.now ≡ length whole = ap length c.rows-rows.ensures in
     let all : c.loop-i.i ≡ length whole = omega (arith, c.loop-i.auto.i, c.loop-i.auto.i-end, c.loop-i-test.false, c.len-i.ensures.count, inside, s.longer) in
-    subst (λ (i : ℕ). Offered A s.factors (order_of A g.P.Preference.good s) s.room s.base.words.now (λ y. OneOf A s.factors (shared_rows s) (drop (length known) whole) y ⊎ Below i (LedAt A s.factors whole (length known)) y) [] (chosen_words c.loop-i.best.words)) all c.loop-i.invariant.0
+    subst (λ (i : ℕ). Offered A s.factors (order_of A g.P.Preference.good s) s.room s.base.words.now (λ y. OneOf A s.factors (shared_rows s) (drop (length known) whole) y ⊎ Below i (LedAt A s.factors whole (length known)) y) [] (words_of c.loop-i.progress)) all c.loop-i.invariant.0

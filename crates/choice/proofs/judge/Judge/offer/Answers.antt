@@ -1,7 +1,6 @@
 use Rattle.levels.specs.Rows.{basis_rows}
 use Rattle.levels.proofs.Reduced.{space_at, alias_word}
-use Rattle.choice.specs.Chosen.{chosen_words}
-use Rattle.choice.specs.Judged.{shared_rows}
+use Rattle.choice.specs.Judged.{shared_rows, words_of}
 use Rattle.choice.proofs.Offers.{offered_alias, shared_law, shared_base}
 use Rattle.choice.proofs.judge.Judge.offer.Goals as goal
 
@@ -24,6 +23,6 @@ returns g c =
     let base = s.base.words.now in
     let known = basis_rows s.known in (
       offered_alias A L good laws s.factors s.room base (shared_rows s) (shared_base A L s.factors base known s.spans s.alike) (shared_law A L good laws s.factors base known s.spans s.alike c.requires.kept.2)
-          c.args.word c.smallest.result c.requires.word c.smallest.ensures (chosen_words c.args.best.now.words) (chosen_words c.offer_least.new.best.words) c.offer_least.ensures.0,
+          c.args.word c.smallest.result c.requires.word c.smallest.ensures (words_of c.args.progress.now) (words_of c.offer_least.new.progress) c.offer_least.ensures.0,
       c.offer_least.ensures.1,
     )

@@ -4,9 +4,8 @@ use Rattle.levels.specs.Space.{AllWords}
 use Rattle.levels.specs.Generated.{combinations}
 use Rattle.levels.proofs.Leaves.{combinations_words}
 use Rattle.levels.proofs.Reduced.{space_at}
-use Rattle.choice.specs.Chosen.{chosen_words}
 use Rattle.choice.specs.Search.{Coset, Spread}
-use Rattle.choice.specs.Judged.{order_of, OfferedTo, shared_rows}
+use Rattle.choice.specs.Judged.{order_of, OfferedTo, shared_rows, words_of}
 use Rattle.choice.proofs.Greedy.{judged_order}
 use Rattle.choice.proofs.Sums.{spread_coset, coset_spread}
 use Rattle.choice.proofs.Sieve.{offered_same}
@@ -38,6 +37,6 @@ returns g c =
     let at_least = order_of A g.P.Preference.good s in
     let shared = shared_rows s in
     let rows : before ++ (behind ++ shared) ≡ c.args.rows.now ++ shared = sym (append_assoc before behind shared) ∙ ap (λ (us : List ℕ). us ++ shared) c.list_sums.ensures.words in
-    let o = offered_same A L n at_least (judged_order A good (g.met.P.Preference.lawful s.preference.now) n base) s.room base (Spread A n shared before leaves start) (Coset A n (before ++ (behind ++ shared)) start) (chosen_words c.args.best.now.words) (chosen_words c.offer_over_leaves.new.best.words)
+    let o = offered_same A L n at_least (judged_order A good (g.met.P.Preference.lawful s.preference.now) n base) s.room base (Spread A n shared before leaves start) (Coset A n (before ++ (behind ++ shared)) start) (words_of c.args.progress.now) (words_of c.offer_over_leaves.new.progress)
     (spread_coset A L n V before behind shared leaves start c.requires.start all) (coset_spread A L n V before behind shared leaves start c.requires.start all) c.offer_over_leaves.ensures.0 in
-    subst (λ (us : List ℕ). OfferedTo A g.P.Preference.good s (Coset A n us start) (chosen_words c.args.best.now.words) c.offer_over_leaves.new.best) rows (o, c.offer_over_leaves.ensures.1)
+    subst (λ (us : List ℕ). OfferedTo A g.P.Preference.good s (Coset A n us start) (words_of c.args.progress.now) c.offer_over_leaves.new.progress) rows (o, c.offer_over_leaves.ensures.1)
