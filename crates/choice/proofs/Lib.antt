@@ -4,4 +4,5 @@ pub mod Sums
 pub mod Sieve
 pub mod Rows
 pub mod Offers
+pub mod Samples
 pub mod BestOf

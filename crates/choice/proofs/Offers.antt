@@ -28,6 +28,7 @@ use Rattle.choice.proofs.Sieve.{no_later_trans}
 use Rattle.choice.proofs.Sums.{leaf_sum, coset_from, coset_to, coset_more}
 use Rattle.choice.specs.Choice.{generators, BestGenerators, DependsOnlyOnWords}
 use Rattle.choice.specs.Search.{Below, OneOf, Coset, Leaf, Spread, LedBy, Led, LedAt, Kept, Offered}
+use Rattle.levels.proofs.Sets.{holds_in}
 use Rattle.choice.proofs.Rows.{same_from_generated}
 use Rattle.choice.proofs.Greedy.{Order, judged_order, same_push, generators_length, best_generators, same_generators}
 use Rattle.preferences.specs.Relation.{Relation, PreferenceLaws, judged}
@@ -38,11 +39,6 @@ use Rattle.choice.proofs.Sieve.{below_split, below_join, offered_none, offered_s
 pub words_head : (ws : List ℕ) → 1 ≤ length ws → get_or ws 0 0 ∷ take (length ws - 1) (drop 1 ws) ≡ ws
 words_head [] l = absurd (omega arith)
 words_head (w ∷ ws) l = ap (λ (us : List ℕ). w ∷ us) (take_rest (w ∷ ws) 1)
-
--- a sum of one of the rows behind some and of shared rows is a word
-pub added_words : (A : Arithmetic) → Lawful A → (n : ℕ) (shared rows : List ℕ) → AllWords A n rows → (k y : ℕ) → OneOf A n shared (drop k rows) y → Word A n y
-added_words A L n shared rows words k y o =
-    let l = o.1 in coset_word A L n shared (get_or (drop k rows) o.0 0) y (subst (Word A n) (sym (get_or-drop k rows o.0 0)) (words (k + o.0) (omega (arith, length-drop k rows)))) o.2.1
 
 -- rows from a place on and those before it generate what they do in their order
 pub middle_same : (A : Arithmetic) → Lawful A → (n : ℕ) → VectorSpace A n → (rows shared : List ℕ) (from i : ℕ) → from ≤ i → take from rows ≡ shared →
@@ -246,26 +242,9 @@ module _ (A : Arithmetic) (L : Lawful A) (good : Relation) (laws : PreferenceLaw
       (λ c y h. coset_word A L n (take c rows) (word_multiple A n h.1.0 (get_or rows c 0)) y (multiple_legal A L n h.1.0 (get_or rows c 0) (get_or rows i 0) word) h.1.2.1) before mid after p
       (offered_same A L n at_least order room base (Led A n (take i rows) (get_or rows i 0)) (LedAt A n rows k i) mid after (λ y h. (l, h)) (λ y h. h.1) q)
 
-  -- the same behind other words
-  pub led_row_behind : (M : ℕ → Type 0) → ((y : ℕ) → M y → Word A n y) → (rows : List ℕ) (k i : ℕ) → k ≤ i → Word A n (get_or rows i 0) → (before mid after : List ℕ) →
-      After (λ y. M y ⊎ Below i (LedAt A n rows k) y) before mid → After (Led A n (take i rows) (get_or rows i 0)) mid after → After (λ y. M y ⊎ Below (i + 1) (LedAt A n rows k) y) before after
-  led_row_behind M words rows k i l word before mid after p q =
-      let N : ℕ → Type 0 = λ y. M y ⊎ Below i (LedAt A n rows k) y in
-      offered_same A L n at_least order room base (λ y. N y ⊎ LedAt A n rows k i y) (λ y. M y ⊎ Below (i + 1) (LedAt A n rows k) y) before after
-      (λ y m. elim m [ inl o ↦ elim o [ inl x ↦ inl x | inr x ↦ inr (below_join i (LedAt A n rows k) y (inl x)) ] | inr x ↦ inr (below_join i (LedAt A n rows k) y (inr x)) ])
-      (λ y m. elim m [ inl x ↦ inl (inl x) | inr b ↦ elim (below_split i (LedAt A n rows k) y b) [ inl x ↦ inl (inr x) | inr x ↦ inr x ] ])
-      (offered_both A L n at_least order room base N (LedAt A n rows k i) before mid after
-      (λ y m. elim m [ inl x ↦ words y x | inr x ↦ led_word x.0 y x.2 ])
-      p (offered_same A L n at_least order room base (Led A n (take i rows) (get_or rows i 0)) (LedAt A n rows k i) mid after (λ y h. (l, h)) (λ y h. h.1) q))
-    where
-      led_word : (c y : ℕ) → LedAt A n rows k c y → Word A n y
-      led_word c y h = coset_word A L n (take c rows) (word_multiple A n h.1.0 (get_or rows c 0)) y (multiple_legal A L n h.1.0 (get_or rows c 0) (get_or rows i 0) word) h.1.2.1
-
-  -- no words behind them
-  pub led_none_behind : (M : ℕ → Type 0) (rows : List ℕ) (k : ℕ) (before after : List ℕ) → After M before after → After (λ y. M y ⊎ Below k (LedAt A n rows k) y) before after
-  led_none_behind M rows k before after p =
-      offered_same A L n at_least order room base M (λ y. M y ⊎ Below k (LedAt A n rows k) y) before after (λ y m. inl m)
-      (λ y m. elim m [ inl x ↦ x | inr b ↦ absurd (let l = b.1 in let g = b.2.0 in omega arith) ]) p
+  -- by no row, none
+  pub led_rows_none : (rows : List ℕ) (k : ℕ) (ours : List ℕ) → Kept A n at_least room base ours → After (Below k (LedAt A n rows k)) ours ours
+  led_rows_none rows k ours p = offered_none A L n at_least order room base (Below k (LedAt A n rows k)) ours (λ y m. let l = m.1 in let g = m.2.0 in omega arith) p
 
 -- the end: where the rows that further words add, and all words that these lead, were offered, the kept words are the generators
 module _ (A : Arithmetic) (L : Lawful A) (good : Relation) (laws : PreferenceLaws A good) (n : ℕ) (room : ℕ) (base further known rows : List ℕ)
@@ -284,23 +263,6 @@ module _ (A : Arithmetic) (L : Lawful A) (good : Relation) (laws : PreferenceLaw
     | inr z ↦ absurd (new (none_trans A L n z (base ++ further) base y G))
   ]
 
-  -- an offered word is wanted
-  offered_wanted : (y : ℕ) → OneOf A n (cond alike known []) (drop (length known) rows) y ⊎ Below (length rows) (LedAt A n rows (length known)) y → Generates A n (base ++ further) y
-  offered_wanted y m = elim m [
-    | inl o ↦
-        let lt = o.1 in
-        let inside : length known + o.0 < length rows = omega (arith, lt, length-drop (length known) rows) in
-        let row = get_or (drop (length known) rows) o.0 0 in
-        let at : row ≡ get_or rows (length known + o.0) 0 = get_or-drop (length known) rows o.0 0 in
-        let word : Word A n row = subst (Word A n) (sym at) (echelon.words (length known + o.0) inside) in
-        let V = space_at A L n row word in
-        let p = coset_from A L n V (cond alike known []) row y word o.2.1 in
-        let R = any_place A L n (vector_space A L n) rows (length known + o.0) (echelon.words (length known + o.0) inside) in
-        let S = any_left A L n (vector_space A L n) base further p.0 (shared_base A L n base known spans alike p.0 p.1) in
-        subst (Generates A n (base ++ further)) (sym p.2) (generates_sum A L n V (base ++ further) row p.0 ((rows_same row).0 (subst (Generates A n rows) (sym at) R)) S)
-    | inr b ↦ (rows_same y).0 ((led-fresh A L n (space_at A L n (get_or rows b.0 0) (echelon.words b.0 b.1)) rows echelon (length known) y b).0)
-  ]
-
   -- what the added rows generate with the base list
   added_same : SameWords A n (base ++ drop (length known) rows) (base ++ further)
   added_same w =
@@ -309,11 +271,15 @@ module _ (A : Arithmetic) (L : Lawful A) (good : Relation) (laws : PreferenceLaw
       let same = subst (λ us. SameWords A n us (base ++ drop (length known) rows)) all push in
       ((λ g. (rows_same w).0 ((same w).1 g)), (λ g. (same w).0 ((rows_same w).1 g)))
 
-  pub generators_found : (ours : List ℕ) → After A L good laws n room base (λ y. OneOf A n (cond alike known []) (drop (length known) rows) y ⊎ Below (length rows) (LedAt A n rows (length known)) y) [] ours → ours ≡ take 16 (generators A good n base further)
-  generators_found ours o =
+  pub generators_found : (before ours : List ℕ) → ((i : ℕ) → i < length before → Generates A n rows (get_or before i 0)) →
+      After A L good laws n room base (Below (length rows) (LedAt A n rows (length known))) before ours → ours ≡ take 16 (generators A good n base further)
+  generators_found before ours made o =
       kept_generators A L n (judged A good n base) (judged_order A good laws n base) room base further ours o.kept
-      (λ i l. elim (o.from i l) [ inl m ↦ offered_wanted (get_or ours i 0) m | inr h ↦ absurd (both_ways false refl h) ])
-      (λ y G new. o.covered y (inr (new_led y G new)))
+      (λ i l. (rows_same (get_or ours i 0)).0 (elim (o.from i l) [
+        | inl b ↦ (led-fresh A L n (space_at A L n (get_or rows b.0 0) (echelon.words b.0 b.1)) rows echelon (length known) (get_or ours i 0) b).0
+        | inr h ↦ let p = holds_in before (get_or ours i 0) h in subst (Generates A n rows) p.2 (made p.0 p.1)
+      ]))
+      (λ y G new. o.covered y (new_led y G new))
       (drop (length known) rows) added_same (omega (arith, length-drop (length known) rows))
 
 -- what is promised of them

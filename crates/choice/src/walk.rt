@@ -14,21 +14,39 @@ use levels::span::list_sums;
 use preferences::Preference;
 
 impl<'a, L: Levels, P: Preference<L>> Judge<'a, L, P> {
-    ghost use Rattle.choice.specs.Judged.{FoundBy, KeptBy, OfferedTo, shared_rows, words_of};
+    ghost use Rattle.choice.specs.Judged.{AllGenerated, FoundBy, KeptBy, OfferedTo, shared_rows, words_of};
 
-    // The best words of all. The rows that the further words add are offered first, so that there is soon no room for most words.
+    // The best words of all.
     pub(crate) fn best(&self) -> Chosen
         requires { OnTrue self.now.alike (EqualAliases L.model (P.good self.now.preference.now)) }
         ensures { FoundBy L.model P.good self.now (chosen_words result) }
     {
-        let mut progress = self.start();
+        let mut progress = self.sample();
         let rows = self.whole.rows();
-        self.offer_all(&mut progress, &rows[self.known.len()..]);
         let from = self.shared();
         for i in self.known.len()..rows.len() {
             self.offer_led(&mut progress, &rows[from..i], rows[i]);
         }
         progress.best.words
+    }
+
+    // The best of some words that lie far apart, so that most words of the walk stand behind them at once: the added rows, and
+    // sums of the first of them with all sums of the last ones.
+    fn sample(&self) -> Progress
+        requires { OnTrue self.now.alike (EqualAliases L.model (P.good self.now.preference.now)) }
+        ensures kept { KeptBy L.model P.good self.now result }
+        ensures generated { AllGenerated L.model self.now (words_of result) }
+    {
+        let mut progress = self.start();
+        let rows = &self.whole.rows()[self.known.len()..];
+        self.offer_all(&mut progress, rows);
+        let (before, sums) = list_sums::<L>(self.factors, rows);
+        let mut start = 0;
+        for row in before {
+            start = L::add(start, *row);
+            self.offer_leaves(&mut progress, sums.as_slice(), start);
+        }
+        progress
     }
 
     // Each word of a list is offered.

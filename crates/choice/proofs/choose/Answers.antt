@@ -18,7 +18,7 @@ returns g c =
     let e = c.new.ensures in
     let ours = chosen_words c.best.result in
     let found = generators_found A L (g.P.Preference.good j.preference.now) (g.met.P.Preference.lawful j.preference.now) j.factors j.room j.base.words.now further (basis_rows j.known) (basis_rows j.whole)
-    j.spans j.all j.front j.longer (rw (e.factors, e.base) e.whole) j.alike j.space ours c.best.ensures in
+    j.spans j.all j.front j.longer (rw (e.factors, e.base) e.whole) j.alike j.space c.best.ensures.0 ours c.best.ensures.1 c.best.ensures.2 in
     let exact : ours ≡ take 16 (generators A good n base further) = rw (e.preference, e.factors, e.base) at found in
     record { exact = exact; promise = promised A L good n base further laws ours exact; same = by_words A L good n base further laws }
 

@@ -1,39 +1,19 @@
-use Rattle.std.proofs.Common.{◌≡◌, ◌≤◌, ◌++◌, ℕ, ◌-◌, ◌⊎◌, List, [], length, get_or, take, drop, sym, ap, ◌∙◌, subst, arith}
-use Rattle.std.proofs.lemmas.List.{take_rest}
+use Rattle.std.proofs.Common.{◌≡◌, ◌≤◌, ◌++◌, ℕ, ◌-◌, List, length, get_or, take, drop, sym, ap, ◌∙◌, subst, arith}
 use Rattle.levels.specs.Rows.{basis_rows}
-use Rattle.choice.specs.Chosen.{chosen_words}
-use Rattle.choice.specs.Search.{Below, OneOf, Led, LedAt, Kept, Offered}
-use Rattle.choice.specs.Judged.{order_of, OfferedTo, shared_rows, words_of}
-use Rattle.choice.proofs.Greedy.{judged_order}
-use Rattle.choice.proofs.Sieve.{kept_none}
 use Rattle.levels.proofs.Reduced.{space_at}
-use Rattle.choice.proofs.Offers.{led_none_behind, led_row_behind, led_same, middle_same, added_words}
+use Rattle.choice.specs.Search.{Below, Led, LedAt, Offered}
+use Rattle.choice.specs.Judged.{OfferedTo, order_of, shared_rows, words_of}
+use Rattle.choice.proofs.Offers.{led_rows_none, led_row, led_same, middle_same}
 use Rattle.choice.proofs.judge.Judge.best.Goals as goal
 
--- no words are kept at first
-pub offer_all-requires-clause-kept : goal.offer_all-requires-clause-kept
-offer_all-requires-clause-kept g c =
-    let A = g.L.Levels.model in
-    let s = c.args.self.now in
-    let at_least = order_of A g.P.Preference.good s in
-    let order = judged_order A (g.P.Preference.good s.preference.now) (g.met.P.Preference.lawful s.preference.now) s.factors s.base.words.now in
-    (subst (Kept A s.factors at_least s.room s.base.words.now) (sym c.start-progress.ensures.words) (kept_none A g.met.L.Levels.lawful s.factors at_least order s.room s.base.words.now), c.start-progress.ensures.beside, c.requires)
-
--- the added rows were offered
+-- at first, by none
 pub loop-i-init : goal.loop-i-init
 loop-i-init g c =
-    let A = g.L.Levels.model in
     let s = c.args.self.now in
-    let rows = c.rows-rows.result.now in
-    let k = c.len.result in
-    let whole = basis_rows s.whole in
-    let known = basis_rows s.known in
-    let after = c.offer_all.new.progress in
-    let same : take (length rows - k) (drop k rows) ≡ drop (length known) whole = take_rest rows k ∙ ap (λ (i : ℕ). drop i rows) c.len.ensures.count ∙ ap (drop (length known)) c.rows-rows.ensures in
-    let o = subst (λ (before : List ℕ). OfferedTo A g.P.Preference.good s (OneOf A s.factors (shared_rows s) (drop (length known) whole)) before after) c.start-progress.ensures.words
-    (subst (λ (ws : List ℕ). OfferedTo A g.P.Preference.good s (OneOf A s.factors (shared_rows s) ws) (words_of c.start-progress.result) after) same c.offer_all.ensures) in
-    subst (λ (i : ℕ). OfferedTo A g.P.Preference.good s (λ y. OneOf A s.factors (shared_rows s) (drop (length known) whole) y ⊎ Below i (LedAt A s.factors whole (length known)) y) [] after) (sym c.len-i.ensures.count)
-    (led_none_behind A g.met.L.Levels.lawful (g.P.Preference.good s.preference.now) (g.met.P.Preference.lawful s.preference.now) s.factors s.room s.base.words.now (OneOf A s.factors (shared_rows s) (drop (length known) whole)) whole (length known) [] (words_of after) o.0, o.1)
+    let k = length (basis_rows s.known) in
+    let sampled = c.sample-progress.result in
+    subst (λ (i : ℕ). OfferedTo g.L.Levels.model g.P.Preference.good s (Below i (LedAt g.L.Levels.model s.factors (basis_rows s.whole) k)) (words_of sampled) sampled) (sym c.len-i.ensures.count)
+    (led_rows_none g.L.Levels.model g.met.L.Levels.lawful (g.P.Preference.good s.preference.now) (g.met.P.Preference.lawful s.preference.now) s.factors s.room s.base.words.now (basis_rows s.whole) k (words_of sampled) c.sample-progress.ensures.kept.0, c.sample-progress.ensures.kept.1)
 
 -- the words led by one row more
 pub loop-i-preserved : goal.loop-i-preserved
@@ -56,9 +36,8 @@ loop-i-preserved g c =
     let same = middle_same A L s.factors V whole shared from i front c.shared-from.ensures.front in
     let led = subst (λ (us : List ℕ). OfferedTo A g.P.Preference.good s (Led A s.factors (take (i - from) (drop from us) ++ shared) (get_or us i 0)) (words_of c.loop-i.progress) c.offer_led.new.progress) c.rows-rows.ensures c.offer_led.ensures in
     let o = led_same A L good laws s.factors s.room s.base.words.now (take (i - from) (drop from whole) ++ shared) (take i whole) (λ x. (same x).0) (λ x. (same x).1) (get_or whole i 0) word (words_of c.loop-i.progress) (words_of c.offer_led.new.progress) led.0 in (
-      led_row_behind A g.met.L.Levels.lawful (g.P.Preference.good s.preference.now) (g.met.P.Preference.lawful s.preference.now) s.factors s.room s.base.words.now
-          (OneOf A s.factors (shared_rows s) (drop (length known) whole)) (added_words A L s.factors shared whole s.all.words (length known)) whole (length known) i (omega (arith, c.loop-i.auto.i, c.len-i.ensures.count)) word
-          [] (words_of c.loop-i.progress) (words_of c.offer_led.new.progress) c.loop-i.invariant.0 o,
+      led_row A L good laws s.factors s.room s.base.words.now whole (length known) i (omega (arith, c.loop-i.auto.i, c.len-i.ensures.count)) word
+          (words_of c.sample-progress.result) (words_of c.loop-i.progress) (words_of c.offer_led.new.progress) c.loop-i.invariant.0 o,
       led.1,
     )
 
@@ -69,6 +48,10 @@ returns g c =
     let s = c.args.self.now in
     let whole = basis_rows s.whole in
     let known = basis_rows s.known in
+    let sampled = words_of c.sample-progress.result in
     let inside : length c.rows-rows.result.now ≡ length whole = ap length c.rows-rows.ensures in
-    let all : c.loop-i.i ≡ length whole = omega (arith, c.loop-i.auto.i, c.loop-i.auto.i-end, c.loop-i-test.false, c.len-i.ensures.count, inside, s.longer) in
-    subst (λ (i : ℕ). Offered A s.factors (order_of A g.P.Preference.good s) s.room s.base.words.now (λ y. OneOf A s.factors (shared_rows s) (drop (length known) whole) y ⊎ Below i (LedAt A s.factors whole (length known)) y) [] (words_of c.loop-i.progress)) all c.loop-i.invariant.0
+    let all : c.loop-i.i ≡ length whole = omega (arith, c.loop-i.auto.i, c.loop-i.auto.i-end, c.loop-i-test.false, c.len-i.ensures.count, inside, s.longer) in (
+      sampled,
+      c.sample-progress.ensures.generated,
+      subst (λ (i : ℕ). Offered A s.factors (order_of A g.P.Preference.good s) s.room s.base.words.now (Below i (LedAt A s.factors whole (length known))) sampled (words_of c.loop-i.progress)) all c.loop-i.invariant.0,
+    )
