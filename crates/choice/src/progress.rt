@@ -48,7 +48,7 @@ impl<'a, L: Levels, P: Preference<L>> Judge<'a, L, P> {
         self.preference.ready(&self.base, word)
     }
 
-    // A candidate that was worked out is kept, while there is room.
+    // A candidate that was worked out is kept, and the first of too many goes.
     fn remember(&self, progress: &mut Progress, candidate: Candidate)
         requires beside { Beside L.model self.now progress.old }
         requires ready { ReadyFor L.model self.now candidate }
@@ -56,6 +56,9 @@ impl<'a, L: Levels, P: Preference<L>> Judge<'a, L, P> {
         ensures beside { Beside L.model self.now progress.new }
     {
         if candidate.tally.is_some() {
+            if progress.candidates.len() == MOST {
+                progress.candidates.remove(0);
+            }
             progress.candidates.push(candidate);
         }
     }

@@ -1,8 +1,10 @@
 // Least aberration: at the smallest length where the alias sets differ in their number of words, fewer is better.
-ghost use Rattle.std.specs.Prelude.{◌≡◌, nat_le};
+ghost use Rattle.std.specs.Prelude.{◌≡◌, true, nat_le};
 ghost use Rattle.levels.specs.Space.{Word};
 ghost use Rattle.levels.specs.Words.{word_length};
-ghost use Rattle.preferences.specs.Built.{least_aberration, no_more, all_tallies};
+ghost use Rattle.preferences.specs.Relation.{fair};
+ghost use Rattle.preferences.specs.Built.{least_aberration, no_more};
+ghost use Rattle.preferences.specs.Candidates.{IsReady};
 ghost use Rattle.preferences.specs.Verdicts.{verdict_of};
 ghost use Rattle.preferences.specs.Counts.{least_aberration_laws};
 
@@ -15,10 +17,10 @@ use levels::{Levels, Span};
 pub struct LeastAberration;
 
 impl<L: Levels> Preference<L> for LeastAberration {
-    ghost good = { λ self. least_aberration L.Levels.model };
+    ghost good = { λ self. least_aberration L.model };
 
     // the order of counts
-    ghost lawful = { λ self. least_aberration_laws L.Levels.model L.Levels.lawful };
+    ghost lawful = { λ self. least_aberration_laws L.model L.lawful };
 
     fn equates_aliases(&self) -> bool {
         true
@@ -41,21 +43,48 @@ impl<L: Levels> Preference<L> for LeastAberration {
         Candidate { word, tally }
     }
 
+    #[inline]
     fn prefer_ready(&self, base: &Span<L>, a: &Candidate, b: &Candidate) -> Verdict {
-        match (&a.tally, &b.tally) {
-            (Some(first), Some(second)) => fewer(first, second),
-            (Some(first), None) => fewer(first, &base.tally(b.word)),
-            (None, Some(second)) => fewer(&base.tally(a.word), second),
-            (None, None) => self.prefer(base, a.word, b.word),
+        if base.words().is_empty() {
+            longer::<L>(a.word, b.word)
+        } else {
+            fewer_ready(base, a, b)
         }
     }
 }
 
 // Of two words, each its own only alias: the first length of which there is one, and of the other none, is the shorter one's.
+#[inline]
 fn longer<L: Levels>(a: u64, b: u64) -> Verdict
-    ensures { result ≡ verdict_of (nat_le (word_length L.Levels.model b) (word_length L.Levels.model a)) (nat_le (word_length L.Levels.model a) (word_length L.Levels.model b)) }
+    ensures {
+        let first = word_length L.model a in
+        let second = word_length L.model b in
+        result ≡ verdict_of (nat_le second first) (nat_le first second)
+    }
 {
     smaller(u64::from(L::length(b)), u64::from(L::length(a)))
+}
+
+// The same of two candidates, whose tallies are counted where they are not known.
+fn fewer_ready<L: Levels>(base: &Span<L>, a: &Candidate, b: &Candidate) -> Verdict
+    ensures {
+        let n = base.now.factors in
+        let words = base.now.words.now in
+        let good = least_aberration L.model in
+        fair L.model n words ≡ true →
+        Word L.model n a.now.word →
+        Word L.model n b.now.word →
+        IsReady L.model n words a.now →
+        IsReady L.model n words b.now →
+        result ≡ verdict_of (good n words a.now.word b.now.word) (good n words b.now.word a.now.word)
+    }
+{
+    match (&a.tally, &b.tally) {
+        (Some(first), Some(second)) => fewer(first, second),
+        (Some(first), None) => fewer(first, &base.tally(b.word)),
+        (None, Some(second)) => fewer(&base.tally(a.word), second),
+        (None, None) => fewer(&base.tally(a.word), &base.tally(b.word)),
+    }
 }
 
 // Of two tallies, the one that is smaller where they first differ.

@@ -26,7 +26,7 @@ impl Cheapest {
 
     // The sum of the costs of the factors whose digit is not 0.
     fn cost<L: Levels>(&self, n: u8, word: u64) -> u32
-        ensures { result ≡ cost self.now.costs (digits L.Levels.model n word) }
+        ensures { result ≡ cost self.now.costs (digits L.model n word) }
     {
         let mut total = 0;
         let mut left = word;
@@ -41,10 +41,11 @@ impl Cheapest {
 }
 
 impl<L: Levels> Preference<L> for Cheapest {
-    ghost good = { λ self. cheapest L.Levels.model self.costs };
+    ghost good = { λ self. cheapest L.model self.costs };
 
     ghost lawful = { Prim.search rules };
 
+    #[inline]
     fn prefer(&self, base: &Span<L>, a: u64, b: u64) -> Verdict {
         let n = base.factors();
         smaller(
@@ -55,7 +56,7 @@ impl<L: Levels> Preference<L> for Cheapest {
 }
 
 impl<L: Levels> Scored<L> for Cheapest {
-    ghost points = { λ self. cost_score L.Levels.model self.costs };
+    ghost points = { λ self. cost_score L.model self.costs };
 
     fn score(&self, n: u8, word: u64) -> u32 {
         count_if_legal::<L, _>(n, word, |word| self.cost::<L>(n, word))
@@ -64,14 +65,14 @@ impl<L: Levels> Scored<L> for Cheapest {
 
 // The digit of factor 1.
 fn first_digit<L: Levels>(word: u64) -> u64
-    ensures { result ≡ word % 2 ^ L.Levels.model.bits }
+    ensures { result ≡ word % 2 ^ L.model.bits }
 {
     word & ((1u64 << L::BITS) - 1)
 }
 
 // The digits of the other factors, each one place down.
 fn other_digits<L: Levels>(word: u64) -> u64
-    ensures { result ≡ word / 2 ^ L.Levels.model.bits }
+    ensures { result ≡ word / 2 ^ L.model.bits }
 {
     word >> L::BITS
 }

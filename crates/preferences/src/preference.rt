@@ -52,7 +52,7 @@ pub trait Preference<L: Levels> {
     // Which of two codes is better for n factors and a base list of words. Equal where a code or a word of the
     // base list is illegal, or the base list is longer than the limit.
     fn compare(&self, n: u8, base: &[u64], a: u64, b: u64) -> Verdict
-        ensures { result ≡ verdict L.Levels.model (good self.now) n base.now a b }
+        ensures { result ≡ verdict L.model (good self.now) n base.now a b }
     {
         if !judged::<L>(n, base, a, b) {
             return Verdict::Equal;
@@ -64,7 +64,7 @@ pub trait Preference<L: Levels> {
     // the limit, so that nothing has to be tested. Of other codes and lists it may say anything.
     // Legal words are premises: a type that carried this would be of one number of factors, and each caller would make two of them.
     fn prefer(&self, base: &Span<L>, a: u64, b: u64) -> Verdict
-        ensures { fair L.Levels.model base.now.factors base.now.words.now ≡ true → Word L.Levels.model base.now.factors a → Word L.Levels.model base.now.factors b → result ≡ verdict_of (good self.now base.now.factors base.now.words.now a b) (good self.now base.now.factors base.now.words.now b a) };
+        ensures { fair L.model base.now.factors base.now.words.now ≡ true → Word L.model base.now.factors a → Word L.model base.now.factors b → result ≡ verdict_of (good self.now base.now.factors base.now.words.now a b) (good self.now base.now.factors base.now.words.now b a) };
 
     // A word that many questions are asked of, with whatever these would else work out again and again.
     fn ready(&self, base: &Span<L>, word: u64) -> Candidate
@@ -75,6 +75,7 @@ pub trait Preference<L: Levels> {
     }
 
     // What `prefer` says of two candidates.
+    #[inline]
     fn prefer_ready(&self, base: &Span<L>, a: &Candidate, b: &Candidate) -> Verdict
         ensures {
             let n = base.now.factors in
@@ -92,12 +93,12 @@ pub trait Preference<L: Levels> {
 
     // Whether words of one alias set over the base list are known to be equal, so that a search may judge one word of each set.
     fn equates_aliases(&self) -> bool
-        ensures { OnTrue result (EqualAliases L.Levels.model (good self.now)) }
+        ensures { OnTrue result (EqualAliases L.model (good self.now)) }
     {
         false
     }
 
-    ghost lawful: { (self : Self) → PreferenceLaws L.Levels.model (good self) };
+    ghost lawful: { (self : Self) → PreferenceLaws L.model (good self) };
 }
 
 // A preference that also scores words: the smaller score is better.
@@ -107,31 +108,32 @@ pub trait Scored<L: Levels>: Preference<L> {
     // The score of a word of n factors, from 0 to 2,097,120; 0 for an illegal code.
     fn score(&self, n: u8, word: u64) -> u32
         ensures value { result ≡ points self.now n word }
-        ensures ranks { Scores L.Levels.model (Self.Preference.good self.now) (points self.now) };
+        ensures ranks { Scores L.model (Self.Preference.good self.now) (points self.now) };
 }
 
 // Whether a preference has anything to judge: every code is legal and the base list is within the limit.
 pub fn judged<L: Levels>(n: u8, base: &[u64], a: u64, b: u64) -> bool
-    ensures { result ≡ (fair L.Levels.model n base.now && (legal L.Levels.model n a && legal L.Levels.model n b)) }
+    ensures { result ≡ (fair L.model n base.now && (legal L.model n a && legal L.model n b)) }
 {
     fair::<L>(n, base) && L::legal(n, a) && L::legal(n, b)
 }
 
 // Whether preferences judge by a base list: every word is legal, and there are no more than the limit.
 pub fn fair<L: Levels>(n: u8, base: &[u64]) -> bool
-    ensures { result ≡ fair L.Levels.model n base.now }
+    ensures { result ≡ fair L.model n base.now }
 {
     base.len() <= L::LIMIT && all_legal::<L>(n, base)
 }
 
 // Whether every word of a list is legal.
 pub fn all_legal<L: Levels>(n: u8, words: &[u64]) -> bool
-    ensures { result ≡ all_legal L.Levels.model n words.now }
+    ensures { result ≡ all_legal L.model n words.now }
 {
     words.iter().all(|word| L::legal(n, *word))
 }
 
 // The smaller of two numbers is better.
+#[inline]
 pub fn smaller(a: u64, b: u64) -> Verdict
     ensures { result ≡ verdict_of (nat_le a b) (nat_le b a) }
 {
@@ -142,8 +144,8 @@ pub fn smaller(a: u64, b: u64) -> Verdict
 #[inline]
 pub(crate) fn count_if_legal<L: Levels, F: FnOnce(u64) -> u32>(n: u8, word: u64, count: F) -> u32
     requires { F.IsAlwaysCallable count }
-    ensures legal { legal L.Levels.model n word ≡ true → F.post count word result }
-    ensures illegal { legal L.Levels.model n word ≡ false → result ≡ 0 }
+    ensures legal { legal L.model n word ≡ true → F.post count word result }
+    ensures illegal { legal L.model n word ≡ false → result ≡ 0 }
 {
     if L::legal(n, word) { count(word) } else { 0 }
 }

@@ -14,15 +14,16 @@ pub struct Reversed<P>(pub P);
 pub type Longest = Reversed<Shortest>;
 
 impl<L: Levels, P: Preference<L>> Preference<L> for Reversed<P> {
-    ghost good = { λ self. reversed (P.Preference.good self.0) };
+    ghost good = { λ self. reversed (P.good self.0) };
 
     // the laws of the preference
-    ghost lawful = { λ self. reversed_laws L.Levels.model (P.Preference.good self.0) (P.Preference.lawful self.0) };
+    ghost lawful = { λ self. reversed_laws L.model (P.good self.0) (P.lawful self.0) };
 
     fn equates_aliases(&self) -> bool {
         self.0.equates_aliases()
     }
 
+    #[inline]
     fn prefer(&self, base: &Span<L>, a: u64, b: u64) -> Verdict {
         self.0.prefer(base, a, b).turned()
     }
@@ -31,6 +32,7 @@ impl<L: Levels, P: Preference<L>> Preference<L> for Reversed<P> {
         self.0.ready(base, word)
     }
 
+    #[inline]
     fn prefer_ready(&self, base: &Span<L>, a: &Candidate, b: &Candidate) -> Verdict {
         self.0.prefer_ready(base, a, b).turned()
     }

@@ -10,17 +10,18 @@ use levels::{Levels, Span};
 pub struct Shortest;
 
 impl<L: Levels> Preference<L> for Shortest {
-    ghost good = { λ self. shortest L.Levels.model };
+    ghost good = { λ self. shortest L.model };
 
     ghost lawful = { Prim.search rules };
 
+    #[inline]
     fn prefer(&self, _base: &Span<L>, a: u64, b: u64) -> Verdict {
         smaller(u64::from(L::length(a)), u64::from(L::length(b)))
     }
 }
 
 impl<L: Levels> Scored<L> for Shortest {
-    ghost points = { λ self. length_score L.Levels.model };
+    ghost points = { λ self. length_score L.model };
 
     fn score(&self, n: u8, word: u64) -> u32 {
         count_if_legal::<L, _>(n, word, |word| u32::from(L::length(word)))
