@@ -763,10 +763,17 @@ impl<K: Ord + Copy> Best<K> {
 }
 
 /// Goes through the words that a base list and further words generate, and the base list does not: by the last further
-/// word in them. The further words come first, alone.
+/// word in them. Some that lie far apart come first.
 #[inline(always)]
 fn beyond<L: Levels>(base: &[u64], further: &[u64], mut visit: impl FnMut(u64)) {
     further.iter().for_each(|&word| visit(word));
+    let (first, last) = further.split_at(further.len().saturating_sub(if L::S == 2 { 6 } else { 4 }));
+    let leaves = sums::<L>(last);
+    let mut start = 0;
+    for &word in first {
+        start = L::add(start, word);
+        leaves.iter().for_each(|&leaf| visit(L::add(start, leaf)));
+    }
     let mut before: Vec<u64> = base.to_vec();
     for &word in further {
         let spread = Spread::new::<L>(&before);

@@ -183,11 +183,8 @@ module _ (A : Arithmetic) (L : Lawful A) (good : Relation) (laws : PreferenceLaw
 
     module _ (leaves : List ℕ) (start : ℕ) (word : Word A n start) (words : AllWords A n leaves) where
       -- one leaf more
-      pub leaf_more : (k sum : ℕ) → k < length leaves → sum ≡ code_sum A start (get_or leaves k 0) → (before mid after : List ℕ) → After (Below k (Leaf A n shared leaves start)) before mid → After (Coset A n shared sum) mid after →
-          After (Below (k + 1) (Leaf A n shared leaves start)) before after
-      leaf_more k sum l e before mid after p q =
-          offered_more A L n at_least order room base k (Leaf A n shared leaves start) (leaf_word A L n leaves words shared start word) before mid after p
-          (subst (λ v. After (Coset A n shared v) mid after) (leaf_value A L n leaves start word words k sum l e) q)
+      pub leaf_next : (k : ℕ) (before mid after : List ℕ) → After (Below k (Leaf A n shared leaves start)) before mid → After (Leaf A n shared leaves start k) mid after → After (Below (k + 1) (Leaf A n shared leaves start)) before after
+      leaf_next k before mid after p q = offered_more A L n at_least order room base k (Leaf A n shared leaves start) (leaf_word A L n leaves words shared start word) before mid after p q
 
       -- leaves more that change nothing
       leaves_more : (k d : ℕ) (before mid : List ℕ) → After (Below k (Leaf A n shared leaves start)) before mid →

@@ -1,10 +1,10 @@
 // One word after the other is offered to the best so far.
-ghost use Rattle.std.specs.Prelude.{◌≡◌, ℕ, ◌<◌, ◌≤◌, [], length, slice_index};
+ghost use Rattle.std.specs.Prelude.{◌≡◌, ℕ, ◌<◌, ◌≤◌, [], length, slice_index, IfSome, IfNone};
 ghost use Rattle.std.specs.Bool.{OnTrue, OnFalse};
 ghost use Rattle.std.specs.List.{All};
 ghost use Rattle.bounded.specs.Items.{items_of};
 ghost use Rattle.levels.specs.Space.{AllWords, Word};
-ghost use Rattle.choice.specs.Search.{Coset, Leaf, NoLater};
+ghost use Rattle.choice.specs.Search.{Coset, NoLater};
 
 use crate::best::Best;
 use crate::chosen::MOST;
@@ -20,8 +20,15 @@ pub(crate) struct Progress {
     pub(crate) candidates: Bounded<Candidate, MOST>,
 }
 
+// The candidate of a leaf at a place.
+#[derive(Drop)]
+pub(crate) struct Ahead {
+    pub(crate) place: usize,
+    pub(crate) candidate: Candidate,
+}
+
 impl<'a, L: Levels, P: Preference<L>> Judge<'a, L, P> {
-    ghost use Rattle.choice.specs.Judged.{Beside, IsFor, KeptBy, OfferedTo, ReadyFor, order_of, shared_rows, words_of};
+    ghost use Rattle.choice.specs.Judged.{Beside, Found, IsFor, KeptBy, LeastAt, NoneAhead, OfferedTo, ReadyFor, order_of, shared_rows, words_of};
 
     // No words so far.
     pub(crate) fn start(&self) -> Progress
@@ -115,60 +122,77 @@ impl<'a, L: Levels, P: Preference<L>> Judge<'a, L, P> {
             OfferedTo L.model P.good self.now alike (words_of progress.old) progress.new
         }
     {
-        self.offer_least(progress, self.smallest(word));
+        let least = self.smallest(word);
+        self.enter(progress, self.preference.ready(&self.base, least));
     }
 
-    // The smallest code of the words that are alike is offered.
-    fn offer_least(&self, progress: &mut Progress, word: u64)
-        requires word { Word L.model self.now.factors word }
+    // A candidate is put among the best words, unless they are full or generate it.
+    pub(crate) fn enter(&self, progress: &mut Progress, candidate: Candidate)
+        requires candidate { IsFor L.model self.now candidate }
         requires kept { KeptBy L.model P.good self.now progress.old }
         ensures {
-            OfferedTo L.model P.good self.now (λ y. y ≡ word) (words_of progress.old) progress.new
+            let before = words_of progress.old in
+            OfferedTo L.model P.good self.now (λ y. y ≡ candidate.word) before progress.new
         }
     {
-        let candidate = self.preference.ready(&self.base, word);
         let place = self.place(progress, &candidate);
-        if place < self.room && !self.generated(&progress.best, place, word) {
-            let more = self.put(progress.best.words.words(), place, word);
+        if place < self.room && !self.generated(&progress.best, place, candidate.word) {
+            let more = self.put(progress.best.words.words(), place, candidate.word);
             progress.best = more;
             self.remember(progress, candidate);
         }
     }
 
-    // The place of the first leaf, from one on, whose sum with a start may stand before one of as many words as there is room for.
+    // The smallest code of the words that are alike to the sum of a start and the leaf at a place.
+    #[inline(always)]
+    fn least_at(&self, leaves: &[u64], place: usize, start: u64) -> Ahead
+        requires place { place < length leaves.now }
+        requires start { Word L.model self.now.factors start }
+        requires words { AllWords L.model self.now.factors leaves.now }
+        ensures place { result.place ≡ place }
+        ensures least { LeastAt L.model self.now leaves.now start result }
+    {
+        let word = self.smallest(L::add(start, leaves[place]));
+        Ahead {
+            place,
+            candidate: self.preference.ready(&self.base, word),
+        }
+    }
+
+    // The first leaf, from a place on, whose sum with a start does not stand behind as many words as there is room for.
     pub(crate) fn next_ahead(
         &self,
         progress: &Progress,
         leaves: &[u64],
         first: usize,
         start: u64,
-    ) -> usize
-        requires first { first ≤ length leaves.now }
+    ) -> Option<Ahead>
+        requires first { first < length leaves.now }
         requires start { Word L.model self.now.factors start }
         requires words { AllWords L.model self.now.factors leaves.now }
         requires kept { KeptBy L.model P.good self.now progress.now }
-        ensures from { first ≤ result }
-        ensures within { result ≤ length leaves.now }
-        ensures behind {
-            let words = words_of progress.now in
-            let alike = Leaf L.model self.now.factors (shared_rows self.now) leaves.now start in
-            (k : ℕ) → first ≤ k → k < result → OfferedTo L.model P.good self.now (alike k) words progress.now
+        ensures some {
+            IfSome result (Found L.model P.good self.now progress.now leaves.now start first)
+        }
+        ensures none {
+            let end = length leaves.now in
+            IfNone result (NoneAhead L.model P.good self.now progress.now leaves.now start first end)
         }
     {
         let words = progress.best.words.words();
         if words.len() < self.room {
-            return first;
+            return Some(self.least_at(leaves, first, start));
         }
         let [.., last] = words else {
-            return first;
+            return Some(self.least_at(leaves, first, start));
         };
         let last = self.candidate(progress, *last);
         for k in first..leaves.len() {
-            let word = self.smallest(L::add(start, leaves[k]));
-            if !self.precedes(&last, &Candidate::new(word)) {
-                return k;
+            let ahead = self.least_at(leaves, k, start);
+            if !self.precedes(&last, &ahead.candidate) {
+                return Some(ahead);
             }
         }
-        leaves.len()
+        None
     }
 }

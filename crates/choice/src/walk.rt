@@ -31,7 +31,7 @@ impl<'a, L: Levels, P: Preference<L>> Judge<'a, L, P> {
     }
 
     // The best of some words that lie far apart, so that most words of the walk stand behind them at once: the added rows, and
-    // sums of the first of them with all sums of the last ones.
+    // sums of the first of them with all sums of the last ones. Of alias sets there are few, and each is counted in full.
     fn sample(&self) -> Progress
         requires { OnTrue self.now.alike (EqualAliases L.model (P.good self.now.preference.now)) }
         ensures kept { KeptBy L.model P.good self.now result }
@@ -40,11 +40,13 @@ impl<'a, L: Levels, P: Preference<L>> Judge<'a, L, P> {
         let mut progress = self.start();
         let rows = &self.whole.rows()[self.known.len()..];
         self.offer_all(&mut progress, rows);
-        let (before, sums) = list_sums::<L>(self.factors, rows);
-        let mut start = 0;
-        for row in before {
-            start = L::add(start, *row);
-            self.offer_leaves(&mut progress, sums.as_slice(), start);
+        if self.shared() == 0 {
+            let (before, sums) = list_sums::<L>(self.factors, rows);
+            let mut start = 0;
+            for row in before {
+                start = L::add(start, *row);
+                self.offer_leaves(&mut progress, sums.as_slice(), start);
+            }
         }
         progress
     }
@@ -75,10 +77,12 @@ impl<'a, L: Levels, P: Preference<L>> Judge<'a, L, P> {
     {
         let mut next = 0;
         while next < leaves.len() {
-            next = self.next_ahead(progress, leaves, next, start);
-            if next < leaves.len() {
-                self.offer(progress, L::add(start, leaves[next]));
-                next += 1;
+            match self.next_ahead(progress, leaves, next, start) {
+                Some(ahead) => {
+                    self.enter(progress, ahead.candidate);
+                    next = ahead.place + 1;
+                }
+                None => next = leaves.len(),
             }
         }
     }

@@ -43,7 +43,7 @@ impl<L: Levels> Preference<L> for LeastAberration {
         Candidate { word, tally }
     }
 
-    #[inline]
+    #[inline(always)]
     fn prefer_ready(&self, base: &Span<L>, a: &Candidate, b: &Candidate) -> Verdict {
         if base.words().is_empty() {
             longer::<L>(a.word, b.word)
@@ -66,6 +66,7 @@ fn longer<L: Levels>(a: u64, b: u64) -> Verdict
 }
 
 // The same of two candidates, whose tallies are counted where they are not known.
+#[inline(never)]
 fn fewer_ready<L: Levels>(base: &Span<L>, a: &Candidate, b: &Candidate) -> Verdict
     ensures {
         let n = base.now.factors in

@@ -35,6 +35,26 @@ loop-row-init g c =
       (words_of c.start-progress.result) (words_of c.offer_all.new.progress) (λ i l. absurd (omega (arith, ap length c.start-progress.ensures.words))) c.offer_all.ensures.0.from;
     }
 
+-- they alone, where alias sets are judged
+pub returns-else-shared-eq0-clause-generated : goal.returns-else-shared-eq0-clause-generated
+returns-else-shared-eq0-clause-generated g c =
+    let A = g.L.Levels.model in
+    let L = g.met.L.Levels.lawful in
+    let s = c.args.self.now in
+    let n = s.factors in
+    let known = basis_rows s.known in
+    let whole = basis_rows s.whole in
+    let rows = c.rows.result.now in
+    let k = c.len.result in
+    let added = take (length rows - k) (drop k rows) in
+    let is : added ≡ drop (length known) whole = take_rest rows k ∙ ap (λ (i : ℕ). drop i rows) c.len.ensures.count ∙ ap (drop (length known)) c.rows.ensures in
+    let inside = shared_generates A L n known whole s.alike s.front in
+    let words : AllWords A n added = subst (AllWords A n) (sym is) (drop_words A L n whole s.all.words (length known)) in
+    let made : (i : ℕ) → i < length added → Generates A n whole (get_or added i 0) =
+    subst (λ (us : List ℕ). (i : ℕ) → i < length us → Generates A n whole (get_or us i 0)) (sym is) (drop_generated A L n whole s.all.words (length known)) in
+    all_generated A L n whole (OneOf A n (shared_rows s) added) (one_generated A L n whole (shared_rows s) inside added words made)
+      (words_of c.start-progress.result) (words_of c.offer_all.new.progress) (λ i l. absurd (omega (arith, ap length c.start-progress.ensures.words))) c.offer_all.ensures.0.from
+
 -- the next start is a word
 pub offer_leaves-requires-clause-start : goal.offer_leaves-requires-clause-start
 offer_leaves-requires-clause-start g c =

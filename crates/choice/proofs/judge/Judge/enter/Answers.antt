@@ -5,8 +5,8 @@ use Rattle.choice.specs.Search.{NoLater, Offered, sieve}
 use Rattle.choice.specs.Judged.{words_of, order_of}
 use Rattle.choice.proofs.Greedy.{judged_order}
 use Rattle.choice.proofs.Sieve.{offered_at, offered_stays}
-use Rattle.choice.proofs.judge.Judge.offer_least.Goals.{else-place-self-via-then-place-self+else-not-generated, else-place-self-via-else-place-self}
-use Rattle.choice.proofs.judge.Judge.offer_least.Goals as goal
+use Rattle.choice.proofs.judge.Judge.enter.Goals.{else-place-self-via-then-place-self+else-not-generated, else-place-self-via-else-place-self}
+use Rattle.choice.proofs.judge.Judge.enter.Goals as goal
 
 -- the word is put in at its place
 pub returns-then-not-generated : goal.returns-then-not-generated
@@ -19,11 +19,10 @@ returns-then-not-generated g c =
     let order = judged_order A good (g.met.P.Preference.lawful s.preference.now) s.factors base in
     let ours = words_of c.args.progress.now in
     let p = c.place-place.ensures in
-    let is = c.ready-candidate.ensures.word in
-    let made = c.remember.ensures.words ∙ c.put-more.ensures.words ∙ ap (λ (us : List ℕ). sieve A s.factors s.room base [] (take c.place-place.result us ++ c.args.word ∷ drop c.place-place.result us)) c.words.ensures in (
-      subst (Offered A s.factors at_least s.room base (λ (y : ℕ). y ≡ c.args.word) ours) (sym made)
-          (offered_at A g.met.L.Levels.lawful s.factors at_least order s.room base ours c.place-place.result c.args.word p.within c.requires.kept.0 c.requires.word
-          (λ j l. subst (NoLater at_least (get_or ours j 0)) is (p.before j l)) (λ j l m. subst (λ x. NoLater at_least x (get_or ours j 0)) is (p.behind j l m))),
+    let made = c.remember.ensures.words ∙ c.put-more.ensures.words ∙ ap (λ (us : List ℕ). sieve A s.factors s.room base [] (take c.place-place.result us ++ c.args.candidate.word ∷ drop c.place-place.result us)) c.words.ensures in (
+      subst (Offered A s.factors at_least s.room base (λ (y : ℕ). y ≡ c.args.candidate.word) ours) (sym made)
+          (offered_at A g.met.L.Levels.lawful s.factors at_least order s.room base ours c.place-place.result c.args.candidate.word p.within c.requires.kept.0 c.requires.candidate.0
+          p.before p.behind),
       c.remember.ensures.beside,
     )
 
@@ -38,12 +37,11 @@ returns-else-place-self g c =
     let order = judged_order A good (g.met.P.Preference.lawful s.preference.now) s.factors base in
     let ours = words_of c.args.progress.now in
     let p = c.place-place.ensures in
-    let is = c.ready-candidate.ensures.word in
-    let known : Generates A s.factors (base ++ take c.place-place.result ours) c.args.word ⊎ (s.room ≤ c.place-place.result) = elim c.else-place-self.branch [
+    let known : Generates A s.factors (base ++ take c.place-place.result ours) c.args.candidate.word ⊎ (s.room ≤ c.place-place.result) = elim c.else-place-self.branch [
       | else-place-self-via-then-place-self+else-not-generated w ↦ inl (OnTrue_at w.if-not-generated.false w.generated.ensures)
       | else-place-self-via-else-place-self w ↦ inr (omega (arith, w.if-place-self.false))
     ] in (
-      offered_stays A g.met.L.Levels.lawful s.factors at_least order s.room base ours c.args.word c.place-place.result c.requires.kept.0 p.within
-          (λ j l. subst (NoLater at_least (get_or ours j 0)) is (p.before j l)) known,
+      offered_stays A g.met.L.Levels.lawful s.factors at_least order s.room base ours c.args.candidate.word c.place-place.result c.requires.kept.0 p.within
+          p.before known,
       c.requires.kept.1,
     )
