@@ -354,27 +354,27 @@ impl Plan {
     /// The shortest generators of a side.
     pub fn shortest<L: Levels>(&self, block: bool) -> Chosen {
         let (base, further) = self.side(block);
-        choose::<L, _>(base, further, L::length)
+        choose::<L, _>(base, further, true, L::length)
     }
 
     /// The longest.
     pub fn longest<L: Levels>(&self, block: bool) -> Chosen {
         let (base, further) = self.side(block);
-        choose::<L, _>(base, further, |word| 32 - L::length(word))
+        choose::<L, _>(base, further, true, |word| 32 - L::length(word))
     }
 
     /// The cheapest: the costs of eight factors are looked up at once.
     pub fn cheapest<L: Levels>(&self, block: bool, costs: &[u16; 32]) -> Chosen {
         let (base, further) = self.side(block);
         let table = Costs::new(costs);
-        choose::<L, _>(base, further, |word| table.cost(L::factors(word)))
+        choose::<L, _>(base, further, true, |word| table.cost(L::factors(word)))
     }
 
     /// Those of least aberration: each alias set is judged once.
     pub fn least_aberration<L: Levels>(&self, block: bool) -> Chosen {
         let (base, further) = self.side(block);
         if base.is_empty() {
-            return choose::<L, _>(base, further, |word| 32 - L::length(word));
+            return choose::<L, _>(base, further, true, |word| 32 - L::length(word));
         }
         let mut rows = Rows::new();
         for &word in base {
@@ -383,7 +383,7 @@ impl Plan {
         // sums of words that are reduced by the base list are reduced
         let reduced: Vec<u64> = further.iter().map(|&word| rows.reduce::<L>(word)).collect();
         let spread = Spread::new::<L>(base);
-        choose::<L, _>(&[], &reduced, |word| {
+        choose::<L, _>(&[], &reduced, false, |word| {
             let mut counts = [0u32; 33];
             spread.walk::<L>(word, &mut |alias| counts[L::length(alias)] += 1);
             counts
@@ -763,16 +763,18 @@ impl<K: Ord + Copy> Best<K> {
 }
 
 /// Goes through the words that a base list and further words generate, and the base list does not: by the last further
-/// word in them. Some that lie far apart come first.
+/// word in them. Samples that lie far apart come first, if they are wanted: then most words are soon behind.
 #[inline(always)]
-fn beyond<L: Levels>(base: &[u64], further: &[u64], mut visit: impl FnMut(u64)) {
+fn beyond<L: Levels>(base: &[u64], further: &[u64], samples: bool, mut visit: impl FnMut(u64)) {
     further.iter().for_each(|&word| visit(word));
-    let (first, last) = further.split_at(further.len().saturating_sub(if L::S == 2 { 6 } else { 4 }));
-    let leaves = sums::<L>(last);
-    let mut start = 0;
-    for &word in first {
-        start = L::add(start, word);
-        leaves.iter().for_each(|&leaf| visit(L::add(start, leaf)));
+    if samples {
+        let (first, last) = further.split_at(further.len().saturating_sub(if L::S == 2 { 6 } else { 4 }));
+        let leaves = sums::<L>(last);
+        let mut start = 0;
+        for &word in first {
+            start = L::add(start, word);
+            leaves.iter().for_each(|&leaf| visit(L::add(start, leaf)));
+        }
     }
     let mut before: Vec<u64> = base.to_vec();
     for &word in further {
@@ -789,9 +791,9 @@ fn beyond<L: Levels>(base: &[u64], further: &[u64], mut visit: impl FnMut(u64)) 
 /// The generators beyond a base list, in packed words: each word gets its key once, and most are behind the last of the
 /// best words so far.
 #[inline(always)]
-fn choose<L: Levels, K: Ord + Copy>(base: &[u64], further: &[u64], mut key: impl FnMut(u64) -> K) -> Chosen {
+fn choose<L: Levels, K: Ord + Copy>(base: &[u64], further: &[u64], samples: bool, mut key: impl FnMut(u64) -> K) -> Chosen {
     let mut best = Best::new::<L>(base, further.len());
-    beyond::<L>(base, further, |word| best.offer::<L>(key(word), word));
+    beyond::<L>(base, further, samples, |word| best.offer::<L>(key(word), word));
     let mut chosen = [0u64; 16];
     best.words.iter().enumerate().for_each(|(i, word)| chosen[i] = word.1);
     (chosen, best.words.len())
@@ -807,7 +809,7 @@ fn choose_by<L: Levels>(base: &[u64], further: &[u64], order: impl Fn(u64, u64) 
     let mut words: Vec<u64> = Vec::with_capacity(17);
     let mut ladder = Ladder::new::<L>(base);
     let known = ladder.len;
-    beyond::<L>(base, further, |word| {
+    beyond::<L>(base, further, true, |word| {
         if words.len() == further.len() && !ahead(word, words[words.len() - 1]) {
             return;
         }

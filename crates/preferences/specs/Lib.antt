@@ -4,3 +4,4 @@ pub mod Relation
 pub mod Verdicts
 pub mod Counts
 pub mod Laws
+pub mod Sums

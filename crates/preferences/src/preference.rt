@@ -139,13 +139,3 @@ pub fn smaller(a: u64, b: u64) -> Verdict
 {
     Verdict::from(a.cmp(&b))
 }
-
-// What a legal word counts; 0 for an illegal code.
-#[inline]
-pub(crate) fn count_if_legal<L: Levels, F: FnOnce(u64) -> u32>(n: u8, word: u64, count: F) -> u32
-    requires { F.IsAlwaysCallable count }
-    ensures legal { legal L.model n word ≡ true → F.post count word result }
-    ensures illegal { legal L.model n word ≡ false → result ≡ 0 }
-{
-    if L::legal(n, word) { count(word) } else { 0 }
-}
