@@ -13,6 +13,9 @@ use bounded::Bounded;
 use levels::Levels;
 use preferences::{Candidate, Preference};
 
+// The alias sets of so few rows are small.
+const SMALL: usize = 4;
+
 // The best words so far, and the candidates of those that entered last.
 #[derive(Drop)]
 pub(crate) struct Progress {
@@ -187,10 +190,20 @@ impl<'a, L: Levels, P: Preference<L>> Judge<'a, L, P> {
             return Some(self.least_at(leaves, first, start));
         };
         let last = self.candidate(progress, *last);
-        for k in first..leaves.len() {
-            let ahead = self.least_at(leaves, k, start);
-            if !self.precedes(&last, &ahead.candidate) {
-                return Some(ahead);
+        // A large alias set is counted once, and what was counted is handed on; of small ones and of words it is not worth it.
+        if last.tally.is_some() && self.known.len() > SMALL {
+            for k in first..leaves.len() {
+                let ahead = self.least_at(leaves, k, start);
+                if !self.precedes(&last, &ahead.candidate) {
+                    return Some(ahead);
+                }
+            }
+        } else {
+            for place in first..leaves.len() {
+                let word = self.smallest(L::add(start, leaves[place]));
+                if !self.precedes(&last, &Candidate::new(word)) {
+                    return Some(self.least_at(leaves, place, start));
+                }
             }
         }
         None
