@@ -37,10 +37,8 @@ impl<'a, L: Levels, P: Preference<L>> Judge<'a, L, P> {
         requires place { place ≤ length (chosen_words best.now.words) }
         requires fits { FitsBy L.model self.now best.now }
         requires word { Word L.model self.now.factors word }
-        ensures {
-            let front = take place (chosen_words best.now.words) in
-            OnTrue result (Generates L.model self.now.factors (self.now.base.words.now ++ front) word)
-        }
+        ensures { let front = self.now.base.words.now ++ take place (chosen_words best.now.words) in
+            OnTrue result (Generates L.model self.now.factors front word) }
     {
         reduce_by::<L>(
             self.factors,
@@ -53,9 +51,8 @@ impl<'a, L: Levels, P: Preference<L>> Judge<'a, L, P> {
     fn keep(&self, kept: &mut Best, word: u64)
         requires fits { FitsBy L.model self.now kept.old }
         requires word { Word L.model self.now.factors word }
-        ensures words {
-            chosen_words kept.new.words ≡ kept_by L.model self.now (chosen_words kept.old.words) word
-        }
+        ensures words { let before = chosen_words kept.old.words in
+            chosen_words kept.new.words ≡ kept_by L.model self.now before word }
         ensures fits { FitsBy L.model self.now kept.new }
     {
         if kept.words.words().len() < self.room {
@@ -71,10 +68,8 @@ impl<'a, L: Levels, P: Preference<L>> Judge<'a, L, P> {
     fn keep_all(&self, kept: &mut Best, words: &[u64])
         requires fits { FitsBy L.model self.now kept.old }
         requires words { AllWords L.model self.now.factors words.now }
-        ensures words {
-            let before = chosen_words kept.old.words in
-            chosen_words kept.new.words ≡ sieved_by L.model self.now before words.now
-        }
+        ensures words { let before = chosen_words kept.old.words in
+            chosen_words kept.new.words ≡ sieved_by L.model self.now before words.now }
         ensures fits { FitsBy L.model self.now kept.new }
     {
         for word in words {
@@ -87,10 +82,8 @@ impl<'a, L: Levels, P: Preference<L>> Judge<'a, L, P> {
         requires place { place ≤ length kept.now }
         requires kept { AllWords L.model self.now.factors kept.now }
         requires word { Word L.model self.now.factors word }
-        ensures words {
-            let longer = take place kept.now ++ word ∷ drop place kept.now in
-            chosen_words result.words ≡ sieved_by L.model self.now [] longer
-        }
+        ensures words { let longer = take place kept.now ++ word ∷ drop place kept.now in
+            chosen_words result.words ≡ sieved_by L.model self.now [] longer }
         ensures fits { FitsBy L.model self.now result }
     {
         let (front, back) = kept.split_at(place);

@@ -32,9 +32,7 @@ pub(crate) struct Judge<'a, L: Levels, P> {
     ghost same: { base.factors ≡ factors },
     ghost aware: { able ≡ fair L.model factors base.words.now },
     ghost echelon: { Echelon L.model factors (basis_rows known) },
-    ghost spans: {
-        generated L.model factors (basis_rows known) ≡ generated L.model factors base.words.now
-    },
+    ghost spans: { generated L.model factors (basis_rows known) ≡ generated L.model factors base.words.now },
     ghost all: { Echelon L.model factors (basis_rows whole) },
     ghost front: { take (length (basis_rows known)) (basis_rows whole) ≡ basis_rows known },
     ghost longer: { length (basis_rows known) ≤ length (basis_rows whole) },
@@ -56,10 +54,8 @@ impl<'a, L: Levels, P: Preference<L>> Judge<'a, L, P> {
         ensures factors { result.factors ≡ factors }
         ensures base { result.base.words.now ≡ base.now }
         ensures alike { OnTrue result.alike (EqualAliases L.model (P.good preference.now)) }
-        ensures whole {
-            let rows = basis_rows result.whole in
-            generated L.model factors rows ≡ generated L.model factors (base.now ++ further.now)
-        }
+        ensures whole { let rows = basis_rows result.whole in
+            generated L.model factors rows ≡ generated L.model factors (base.now ++ further.now) }
     {
         let mut known = Basis::new();
         known.admit_all::<L>(factors, base);
@@ -83,8 +79,10 @@ impl<'a, L: Levels, P: Preference<L>> Judge<'a, L, P> {
     pub(crate) fn precedes(&self, a: &Candidate, b: &Candidate) -> bool
         requires first { IsFor L.model self.now a.now }
         requires second { IsFor L.model self.now b.now }
-        ensures yes { OnTrue result (NoLater (order_of L.model P.good self.now) a.now.word b.now.word) }
-        ensures no { OnFalse result (NoLater (order_of L.model P.good self.now) b.now.word a.now.word) }
+        ensures yes { let order = order_of L.model P.good self.now in
+            OnTrue result (NoLater order a.now.word b.now.word) }
+        ensures no { let order = order_of L.model P.good self.now in
+            OnFalse result (NoLater order b.now.word a.now.word) }
     {
         let verdict = if self.able {
             self.preference.prefer_ready(&self.base, a, b)

@@ -16,18 +16,21 @@ use judge::Judge;
 use levels::Levels;
 use preferences::Preference;
 
-// The generators of what a base list and further words generate together, beyond the base list: at each step the best
-// word that the base list and the words chosen so far do not generate, the smallest code among equals. At most 16 further words are a
-// premise of the promise: a slice of any length is taken.
+/// The generators of what a base list and further words generate together, beyond the base list: at each step the best
+/// word that the base list and the words chosen so far do not generate, the smallest code among equals. At most 16 further words are a
+/// premise of the promise: a slice of any length is taken.
 pub fn choose<L: Levels, P: Preference<L>>(
     preference: &P,
     n: u8,
     base: &[u64],
     further: &[u64],
 ) -> Chosen
-    ensures exact { chosen_words result ≡ take 16 (generators L.Levels.model (P.Preference.good preference.now) n base.now further.now) }
-    ensures promise { length further.now ≤ 16 → BestGenerators L.Levels.model (P.Preference.good preference.now) n base.now further.now (chosen_words result) }
-    ensures same { DependsOnlyOnWords L.Levels.model (P.Preference.good preference.now) n base.now further.now }
+    ensures exact { let good = P.good preference.now in
+        chosen_words result ≡ take 16 (generators L.model good n base.now further.now) }
+    ensures promise { let good = P.good preference.now in
+        length further.now ≤ 16 →
+        BestGenerators L.model good n base.now further.now (chosen_words result) }
+    ensures same { DependsOnlyOnWords L.model (P.good preference.now) n base.now further.now }
 {
     Judge::<L, P>::new(preference, n, base, further).best()
 }

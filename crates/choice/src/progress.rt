@@ -78,14 +78,10 @@ impl<'a, L: Levels, P: Preference<L>> Judge<'a, L, P> {
         requires candidate { IsFor L.model self.now candidate.now }
         requires word { Word L.model self.now.factors word }
         requires ready { All (ReadyFor L.model self.now) (items_of progress.now.candidates) }
-        ensures yes {
-            let order = order_of L.model P.good self.now in
-            OnTrue result (NoLater order candidate.now.word word)
-        }
-        ensures no {
-            let order = order_of L.model P.good self.now in
-            OnFalse result (NoLater order word candidate.now.word)
-        }
+        ensures yes { let order = order_of L.model P.good self.now in
+            OnTrue result (NoLater order candidate.now.word word) }
+        ensures no { let order = order_of L.model P.good self.now in
+            OnFalse result (NoLater order word candidate.now.word) }
     {
         self.precedes(candidate, &self.candidate(progress, word))
     }
@@ -95,16 +91,13 @@ impl<'a, L: Levels, P: Preference<L>> Judge<'a, L, P> {
         requires candidate { IsFor L.model self.now candidate.now }
         requires kept { KeptBy L.model P.good self.now progress.now }
         ensures within { result ≤ length (words_of progress.now) }
-        ensures before {
-            let words = words_of progress.now in
+        ensures before { let words = words_of progress.now in
             let order = order_of L.model P.good self.now in
-            (j : ℕ) → j < result → NoLater order (slice_index words j) candidate.now.word
-        }
-        ensures behind {
-            let words = words_of progress.now in
+            (j : ℕ) → j < result → NoLater order (slice_index words j) candidate.now.word }
+        ensures behind { let words = words_of progress.now in
             let order = order_of L.model P.good self.now in
-            (j : ℕ) → result ≤ j → j < length words → NoLater order candidate.now.word (slice_index words j)
-        }
+            (j : ℕ) → result ≤ j → j < length words →
+            NoLater order candidate.now.word (slice_index words j) }
     {
         let mut front = progress.best.words.words();
         while let [before @ .., last] = front {
@@ -120,10 +113,8 @@ impl<'a, L: Levels, P: Preference<L>> Judge<'a, L, P> {
     pub(crate) fn offer(&self, progress: &mut Progress, word: u64)
         requires word { Word L.model self.now.factors word }
         requires kept { KeptBy L.model P.good self.now progress.old }
-        ensures {
-            let alike = Coset L.model self.now.factors (shared_rows self.now) word in
-            OfferedTo L.model P.good self.now alike (words_of progress.old) progress.new
-        }
+        ensures { let alike = Coset L.model self.now.factors (shared_rows self.now) word in
+            OfferedTo L.model P.good self.now alike (words_of progress.old) progress.new }
     {
         let least = self.smallest(word);
         self.enter(progress, self.preference.ready(&self.base, least));
@@ -133,10 +124,8 @@ impl<'a, L: Levels, P: Preference<L>> Judge<'a, L, P> {
     pub(crate) fn enter(&self, progress: &mut Progress, candidate: Candidate)
         requires candidate { IsFor L.model self.now candidate }
         requires kept { KeptBy L.model P.good self.now progress.old }
-        ensures {
-            let before = words_of progress.old in
-            OfferedTo L.model P.good self.now (λ y. y ≡ candidate.word) before progress.new
-        }
+        ensures { let before = words_of progress.old in
+            OfferedTo L.model P.good self.now (λ y. y ≡ candidate.word) before progress.new }
     {
         let place = self.place(progress, &candidate);
         if place < self.room && !self.generated(&progress.best, place, candidate.word) {
@@ -174,13 +163,10 @@ impl<'a, L: Levels, P: Preference<L>> Judge<'a, L, P> {
         requires start { Word L.model self.now.factors start }
         requires words { AllWords L.model self.now.factors leaves.now }
         requires kept { KeptBy L.model P.good self.now progress.now }
-        ensures some {
-            IfSome result (Found L.model P.good self.now progress.now leaves.now start first)
-        }
-        ensures none {
-            let end = length leaves.now in
-            IfNone result (NoneAhead L.model P.good self.now progress.now leaves.now start first end)
-        }
+        ensures some { IfSome result (Found L.model P.good self.now progress.now leaves.now start first) }
+        ensures none { let end = length leaves.now in
+            let best = progress.now in
+            IfNone result (NoneAhead L.model P.good self.now best leaves.now start first end) }
     {
         let words = progress.best.words.words();
         if words.len() < self.room {

@@ -55,10 +55,8 @@ impl<'a, L: Levels, P: Preference<L>> Judge<'a, L, P> {
     fn offer_all(&self, progress: &mut Progress, words: &[u64])
         requires words { AllWords L.model self.now.factors words.now }
         requires kept { KeptBy L.model P.good self.now progress.old }
-        ensures {
-            let listed = OneOf L.model self.now.factors (shared_rows self.now) words.now in
-            OfferedTo L.model P.good self.now listed (words_of progress.old) progress.new
-        }
+        ensures { let listed = OneOf L.model self.now.factors (shared_rows self.now) words.now in
+            OfferedTo L.model P.good self.now listed (words_of progress.old) progress.new }
     {
         for word in words {
             self.offer(progress, *word);
@@ -70,10 +68,8 @@ impl<'a, L: Levels, P: Preference<L>> Judge<'a, L, P> {
         requires start { Word L.model self.now.factors start }
         requires words { AllWords L.model self.now.factors leaves.now }
         requires kept { KeptBy L.model P.good self.now progress.old }
-        ensures {
-            let sums = Spread L.model self.now.factors (shared_rows self.now) [] leaves.now start in
-            OfferedTo L.model P.good self.now sums (words_of progress.old) progress.new
-        }
+        ensures { let sums = Spread L.model self.now.factors (shared_rows self.now) [] leaves.now start in
+            OfferedTo L.model P.good self.now sums (words_of progress.old) progress.new }
     {
         let mut next = 0;
         while next < leaves.len() {
@@ -92,11 +88,9 @@ impl<'a, L: Levels, P: Preference<L>> Judge<'a, L, P> {
         requires start { Word L.model self.now.factors start }
         requires words { AllWords L.model self.now.factors leaves.now }
         requires kept { KeptBy L.model P.good self.now progress.old }
-        ensures {
-            let shared = shared_rows self.now in
+        ensures { let shared = shared_rows self.now in
             let sums = Spread L.model self.now.factors shared words.now leaves.now start in
-            OfferedTo L.model P.good self.now sums (words_of progress.old) progress.new
-        }
+            OfferedTo L.model P.good self.now sums (words_of progress.old) progress.new }
     {
         match words {
             [] => self.offer_leaves(progress, leaves, start),
@@ -113,10 +107,8 @@ impl<'a, L: Levels, P: Preference<L>> Judge<'a, L, P> {
     fn offer_coset(&self, progress: &mut Progress, rows: &[u64], start: u64)
         requires start { Word L.model self.now.factors start }
         requires kept { KeptBy L.model P.good self.now progress.old }
-        ensures {
-            let sums = Coset L.model self.now.factors (rows.now ++ shared_rows self.now) start in
-            OfferedTo L.model P.good self.now sums (words_of progress.old) progress.new
-        }
+        ensures { let sums = Coset L.model self.now.factors (rows.now ++ shared_rows self.now) start in
+            OfferedTo L.model P.good self.now sums (words_of progress.old) progress.new }
     {
         let (before, sums) = list_sums::<L>(self.factors, rows);
         self.offer_over_leaves(progress, before, sums.as_slice(), start);
@@ -126,10 +118,8 @@ impl<'a, L: Levels, P: Preference<L>> Judge<'a, L, P> {
     fn offer_led(&self, progress: &mut Progress, rows: &[u64], lead: u64)
         requires lead { Word L.model self.now.factors lead }
         requires kept { KeptBy L.model P.good self.now progress.old }
-        ensures {
-            let led = Led L.model self.now.factors (rows.now ++ shared_rows self.now) lead in
-            OfferedTo L.model P.good self.now led (words_of progress.old) progress.new
-        }
+        ensures { let led = Led L.model self.now.factors (rows.now ++ shared_rows self.now) lead in
+            OfferedTo L.model P.good self.now led (words_of progress.old) progress.new }
     {
         for level in 1..L::LEVELS {
             self.offer_coset(progress, rows, L::product(self.factors, level, lead));

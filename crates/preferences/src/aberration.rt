@@ -56,11 +56,9 @@ impl<L: Levels> Preference<L> for LeastAberration {
 // Of two words, each its own only alias: the first length of which there is one, and of the other none, is the shorter one's.
 #[inline]
 fn longer<L: Levels>(a: u64, b: u64) -> Verdict
-    ensures {
-        let first = word_length L.model a in
+    ensures { let first = word_length L.model a in
         let second = word_length L.model b in
-        result ≡ verdict_of (nat_le second first) (nat_le first second)
-    }
+        result ≡ verdict_of (nat_le second first) (nat_le first second) }
 {
     smaller(u64::from(L::length(b)), u64::from(L::length(a)))
 }
@@ -68,8 +66,7 @@ fn longer<L: Levels>(a: u64, b: u64) -> Verdict
 // The same of two candidates, whose tallies are counted where they are not known.
 #[inline(never)]
 fn fewer_ready<L: Levels>(base: &Span<L>, a: &Candidate, b: &Candidate) -> Verdict
-    ensures {
-        let n = base.now.factors in
+    ensures { let n = base.now.factors in
         let words = base.now.words.now in
         let good = least_aberration L.model in
         fair L.model n words ≡ true →
@@ -77,8 +74,9 @@ fn fewer_ready<L: Levels>(base: &Span<L>, a: &Candidate, b: &Candidate) -> Verdi
         Word L.model n b.now.word →
         IsReady L.model n words a.now →
         IsReady L.model n words b.now →
-        result ≡ verdict_of (good n words a.now.word b.now.word) (good n words b.now.word a.now.word)
-    }
+        result ≡ verdict_of
+        (good n words a.now.word b.now.word)
+        (good n words b.now.word a.now.word) }
 {
     match (&a.tally, &b.tally) {
         (Some(first), Some(second)) => fewer(first, second),

@@ -66,10 +66,7 @@ impl<L: Levels> Preference<L> for Cheapest {
 
     #[inline]
     fn prefer(&self, _base: &Span<L>, a: u64, b: u64) -> Verdict {
-        smaller(
-            u64::from(self.total::<L>(a)),
-            u64::from(self.total::<L>(b)),
-        )
+        smaller(u64::from(self.total::<L>(a)), u64::from(self.total::<L>(b)))
     }
 }
 
@@ -125,7 +122,8 @@ fn sums_of_bytes<L: Levels>(costs: &[u16]) -> [u32; OF_BYTES]
     for k in 0..4 * usize::from(L::BITS) {
         for high in 0..16 {
             for low in 0..16 {
-                sums[256 * k + 16 * high + low] = nibbles[32 * k + low] + nibbles[32 * k + 16 + high];
+                sums[256 * k + 16 * high + low] = nibbles[32 * k + low]
+                    + nibbles[32 * k + 16 + high];
             }
         }
     }

@@ -16,7 +16,10 @@ impl<L: Levels, P: Preference<L>, Q: Preference<L>> Preference<L> for FirstThenS
     ghost good = { λ self. first_then_second (P.good self.first) (Q.good self.second) };
 
     // the laws of the two preferences
-    ghost lawful = { λ self. first_then_second_laws L.model (P.good self.first) (Q.good self.second) (P.lawful self.first) (Q.lawful self.second) };
+    ghost lawful = { λ self.
+        let one = P.good self.first in
+        let other = Q.good self.second in
+        first_then_second_laws L.model one other (P.lawful self.first) (Q.lawful self.second) };
 
     fn equates_aliases(&self) -> bool {
         self.first.equates_aliases() && self.second.equates_aliases()

@@ -10,7 +10,7 @@ use levels::{Levels, Span};
 #[derive(Clone, Copy)]
 pub struct Reversed<P>(pub P);
 
-// The longer word is better.
+/// The longer word is better.
 pub type Longest = Reversed<Shortest>;
 
 impl<L: Levels, P: Preference<L>> Preference<L> for Reversed<P> {

@@ -37,9 +37,11 @@ loop-k-preserved g c j l m =
     let later = OnTrue_at c.if-not-precedes.false c.precedes.ensures.yes in
     elim (cases_eq j k) [
       | inr d ↦ c.loop-k.invariant j l (omega (arith, d))
-      | inl e ↦ subst (λ (i : ℕ). OfferedTo A g.P.Preference.good s (Leaf A n shared leaves c.args.start i) words c.args.progress.now) (sym e)
-          (alias_behind A L good laws n s.room base shared (shared_base A L n base known s.spans s.alike) (shared_law A L good laws n base known s.spans s.alike c.requires.kept.2)
-          words c.requires.kept.0 (omega (arith, c.if-words-self.false, ap length all)) c.candidate-last.result.word sum code last word least later, c.requires.kept.1)
+      | inl e ↦ subst (λ (i : ℕ). OfferedTo A g.P.Preference.good s (Leaf A n shared leaves c.args.start i) words c.args.progress.now) (sym e) (
+        alias_behind A L good laws n s.room base shared (shared_base A L n base known s.spans s.alike) (shared_law A L good laws n base known s.spans s.alike c.requires.kept.2)
+            words c.requires.kept.0 (omega (arith, c.if-words-self.false, ap length all)) c.candidate-last.result.word sum code last word least later,
+        c.requires.kept.1,
+      )
     ]
 
 -- the sum is a word
@@ -84,9 +86,11 @@ loop-place-preserved g c j l m =
     elim (cases_eq j k) [
       | inr d ↦ c.loop-place.invariant j l (omega (arith, d))
       | inl e ↦ subst (λ (i : ℕ). OfferedTo A g.P.Preference.good s (Leaf A n shared leaves c.args.start i) words c.args.progress.now) (sym e)
-          (subst (λ (x : ℕ). OfferedTo A g.P.Preference.good s (Coset A n shared x) words c.args.progress.now) value
-          (alias_behind A L good laws n s.room base shared (shared_base A L n base known s.spans s.alike) (shared_law A L good laws n base known s.spans s.alike c.requires.kept.2)
-          words c.requires.kept.0 (omega (arith, c.if-words-self.false, ap length all)) c.candidate-last.result.word sum c.smallest-word.result last word c.smallest-word.ensures later, c.requires.kept.1))
+          (subst (λ (x : ℕ). OfferedTo A g.P.Preference.good s (Coset A n shared x) words c.args.progress.now) value (
+            alias_behind A L good laws n s.room base shared (shared_base A L n base known s.spans s.alike) (shared_law A L good laws n base known s.spans s.alike c.requires.kept.2)
+                words c.requires.kept.0 (omega (arith, c.if-words-self.false, ap length all)) c.candidate-last.result.word sum c.smallest-word.result last word c.smallest-word.ensures later,
+            c.requires.kept.1,
+          ))
     ]
 
 -- the first that does not

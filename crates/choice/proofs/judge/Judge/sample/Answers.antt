@@ -32,7 +32,7 @@ loop-row-init g c =
       start = any_zero A L n (vector_space A L n) whole;
       kept = (c.offer_all.ensures.0.kept, c.offer_all.ensures.1, c.requires);
       generated = all_generated A L n whole (OneOf A n (shared_rows s) added) (one_generated A L n whole (shared_rows s) inside added words made)
-      (words_of c.start-progress.result) (words_of c.offer_all.new.progress) (λ i l. absurd (omega (arith, ap length c.start-progress.ensures.words))) c.offer_all.ensures.0.from;
+          (words_of c.start-progress.result) (words_of c.offer_all.new.progress) (λ i l. absurd (omega (arith, ap length c.start-progress.ensures.words))) c.offer_all.ensures.0.from;
     }
 
 -- they alone, where alias sets are judged
@@ -53,7 +53,7 @@ returns-else-shared-eq0-clause-generated g c =
     let made : (i : ℕ) → i < length added → Generates A n whole (get_or added i 0) =
     subst (λ (us : List ℕ). (i : ℕ) → i < length us → Generates A n whole (get_or us i 0)) (sym is) (drop_generated A L n whole s.all.words (length known)) in
     all_generated A L n whole (OneOf A n (shared_rows s) added) (one_generated A L n whole (shared_rows s) inside added words made)
-      (words_of c.start-progress.result) (words_of c.offer_all.new.progress) (λ i l. absurd (omega (arith, ap length c.start-progress.ensures.words))) c.offer_all.ensures.0.from
+    (words_of c.start-progress.result) (words_of c.offer_all.new.progress) (λ i l. absurd (omega (arith, ap length c.start-progress.ensures.words))) c.offer_all.ensures.0.from
 
 -- the next start is a word
 pub offer_leaves-requires-clause-start : goal.offer_leaves-requires-clause-start
@@ -117,6 +117,6 @@ loop-row-preserved g c =
       start = next.1;
       kept = (c.offer_leaves.ensures.0.kept, c.offer_leaves.ensures.1, c.requires);
       generated = all_generated A L n whole (Spread A n (shared_rows s) [] c.as_slice.result.now c.add-start.result)
-      (leaf_generated A L n whole (shared_rows s) inside c.as_slice.result.now c.add-start.result next.0 words next.1 (last_generated A L n whole s.all.words (length known) added before is split c.as_slice.result.now all))
-      (words_of c.loop-row.progress) (words_of c.offer_leaves.new.progress) c.loop-row.invariant.generated c.offer_leaves.ensures.0.from;
+          (leaf_generated A L n whole (shared_rows s) inside c.as_slice.result.now c.add-start.result next.0 words next.1 (last_generated A L n whole s.all.words (length known) added before is split c.as_slice.result.now all))
+          (words_of c.loop-row.progress) (words_of c.offer_leaves.new.progress) c.loop-row.invariant.generated c.offer_leaves.ensures.0.from;
     }
