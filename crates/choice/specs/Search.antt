@@ -1,10 +1,12 @@
 -- What the search goes through, and what it finds.
-use Rattle.std.specs.Prelude.{◌≡◌, ℕ, ◌+◌, ◌<◌, ◌≤◌, Bool, true, cond, ◌||◌, ◌⊎◌, nat_le, List, [], ◌∷◌, ◌++◌, length, take, slice_index}
+use Rattle.std.specs.Prelude.{◌≡◌, ℕ, ◌+◌, ◌<◌, ◌≤◌, Bool, true, false, cond, ◌||◌, ◌⊎◌, nat_le, nat_lt, List, [], ◌∷◌, ◌++◌, length, take, slice_index}
 use Rattle.levels.specs.Arithmetic.{Arithmetic}
 use Rattle.levels.specs.Words.{word_sum, word_multiple}
 use Rattle.levels.specs.Space.{Word, AllWords}
 use Rattle.levels.specs.Generated.{Generates, SameWords, generated, holds}
 use Rattle.levels.specs.Basis.{Echelon}
+use Rattle.preferences.specs.declared.preference.Verdict.{Verdict}
+use Rattle.preferences.specs.declared.preference.Verdict.TheVariants.{First, Second, Equal}
 
 -- w is one of the words by a level below k
 abbrev pub Below : ℕ → (ℕ → ℕ → Type 0) → ℕ → Type 0
@@ -38,6 +40,12 @@ LedAt A n rows k i w = (k ≤ i) × Led A n (take i rows) (slice_index rows i) w
 -- a may stand before b: it is at least as good, and the smaller code among equals
 abbrev pub NoLater : (ℕ → ℕ → Bool) → ℕ → ℕ → Type 0
 NoLater at_least a b = (at_least a b ≡ true) × (at_least b a ≡ true → a ≤ b)
+
+-- whether the first of two words stands before the second, by the verdict on them: the smaller code among equals
+abbrev pub first_stands : Verdict → ℕ → ℕ → Bool
+first_stands First a b = true
+first_stands Second a b = false
+first_stands Equal a b = nat_lt a b
 
 -- a word put behind kept words, unless there is no room for it, or base and the kept words generate it
 abbrev pub keep : Arithmetic → ℕ → ℕ → List ℕ → List ℕ → ℕ → List ℕ

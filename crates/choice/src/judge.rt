@@ -6,7 +6,7 @@ ghost use Rattle.levels.specs.Generated.{generated};
 ghost use Rattle.levels.specs.Basis.{Echelon, LeastAlias};
 ghost use Rattle.levels.specs.Rows.{basis_rows};
 ghost use Rattle.preferences.specs.Relation.{fair, EqualAliases};
-ghost use Rattle.choice.specs.Search.{NoLater};
+ghost use Rattle.choice.specs.Search.{NoLater, first_stands};
 
 use crate::chosen::MOST;
 use levels::basis::reduce_by;
@@ -89,11 +89,23 @@ impl<'a, L: Levels, P: Preference<L>> Judge<'a, L, P> {
         } else {
             Verdict::Equal
         };
-        match verdict {
-            Verdict::First => true,
-            Verdict::Second => false,
-            Verdict::Equal => a.word < b.word,
-        }
+        before_second(verdict, a.word, b.word)
+    }
+
+    // The same of words alone.
+    #[inline]
+    pub(crate) fn precedes_word(&self, a: u64, b: u64) -> bool
+        requires first { Word L.model self.now.factors a }
+        requires second { Word L.model self.now.factors b }
+        ensures yes { OnTrue result (NoLater (order_of L.model P.good self.now) a b) }
+        ensures no { OnFalse result (NoLater (order_of L.model P.good self.now) b a) }
+    {
+        let verdict = if self.able {
+            self.preference.prefer(&self.base, a, b)
+        } else {
+            Verdict::Equal
+        };
+        before_second(verdict, a, b)
     }
 
     // How many of all rows make words that are alike.
@@ -115,5 +127,17 @@ impl<'a, L: Levels, P: Preference<L>> Judge<'a, L, P> {
         } else {
             word
         }
+    }
+}
+
+// Whether the first of two words stands before the second, by the verdict on them: the smaller code among equals.
+#[inline]
+fn before_second(verdict: Verdict, a: u64, b: u64) -> bool
+    ensures { result ≡ first_stands verdict a b }
+{
+    match verdict {
+        Verdict::First => true,
+        Verdict::Second => false,
+        Verdict::Equal => a < b,
     }
 }

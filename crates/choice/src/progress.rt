@@ -86,6 +86,27 @@ impl<'a, L: Levels, P: Preference<L>> Judge<'a, L, P> {
         self.precedes(candidate, &self.candidate(progress, word))
     }
 
+    // Whether a candidate stands before a word, of which nothing is kept.
+    #[inline(always)]
+    fn precedes_next(&self, candidate: &Candidate, word: u64) -> bool
+        requires candidate { IsFor L.model self.now candidate.now }
+        requires word { Word L.model self.now.factors word }
+        ensures yes {
+            let order = order_of L.model P.good self.now in
+            OnTrue result (NoLater order candidate.now.word word)
+        }
+        ensures no {
+            let order = order_of L.model P.good self.now in
+            OnFalse result (NoLater order word candidate.now.word)
+        }
+    {
+        if candidate.tally.is_some() {
+            self.precedes(candidate, &Candidate::new(word))
+        } else {
+            self.precedes_word(candidate.word, word)
+        }
+    }
+
     // How many of the best words so far stand before a candidate.
     fn place(&self, progress: &Progress, candidate: &Candidate) -> usize
         requires candidate { IsFor L.model self.now candidate.now }
@@ -187,7 +208,7 @@ impl<'a, L: Levels, P: Preference<L>> Judge<'a, L, P> {
         } else {
             for place in first..leaves.len() {
                 let word = self.smallest(L::add(start, leaves[place]));
-                if !self.precedes(&last, &Candidate::new(word)) {
+                if !self.precedes_next(&last, word) {
                     return Some(self.least_at(leaves, place, start));
                 }
             }

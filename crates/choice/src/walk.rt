@@ -41,7 +41,7 @@ impl<'a, L: Levels, P: Preference<L>> Judge<'a, L, P> {
         let rows = &self.whole.rows()[self.known.len()..];
         self.offer_all(&mut progress, rows);
         if self.shared() == 0 {
-            let (before, sums) = list_sums::<L>(self.factors, rows);
+            let (before, sums) = list_sums::<L>(self.factors, self.whole.rows());
             let mut start = 0;
             for row in before {
                 start = L::add(start, *row);

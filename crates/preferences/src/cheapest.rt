@@ -31,6 +31,7 @@ pub struct Cheapest {
 
 impl Cheapest {
     /// By the cost of each factor, factor 1 first.
+    #[inline(never)]
     pub fn new(costs: [u16; FACTORS]) -> Cheapest
         ensures { result.costs ≡ costs }
     {
@@ -113,6 +114,7 @@ fn sums_of_nibbles<L: Levels>(costs: &[u16]) -> [u32; OF_NIBBLES]
 }
 
 // The sums for each value of each byte: those of its two nibbles.
+#[inline(never)]
 fn sums_of_bytes<L: Levels>(costs: &[u16]) -> [u32; OF_BYTES]
     requires { length costs.now ≡ 32 }
     ensures { AreOfBytes L.model costs.now result }

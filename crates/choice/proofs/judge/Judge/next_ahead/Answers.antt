@@ -50,17 +50,15 @@ smallest-word-requires g c =
     leaf_legal g.L.Levels.model g.met.L.Levels.lawful c.args.self.now.factors c.args.leaves.now c.args.start c.requires.start c.requires.words c.loop-place.place c.add.result (omega arith) c.add.ensures
 
 -- so is the smallest code
-pub precedes-requires-in-loop-place-clause-second : goal.precedes-requires-in-loop-place-clause-second
-precedes-requires-in-loop-place-clause-second g c =
+pub precedes_next-requires-clause-word : goal.precedes_next-requires-clause-word
+precedes_next-requires-clause-word g c =
     let s = c.args.self.now in
     let A = g.L.Levels.model in
     let L = g.met.L.Levels.lawful in
     let n = s.factors in
     let sum = c.add.result in
-    let word = leaf_legal A L n c.args.leaves.now c.args.start c.requires.start c.requires.words c.loop-place.place sum (omega arith) c.add.ensures in (
-      subst (Word A n) (sym c.new.ensures.word) (alias_word A L n (space_at A L n sum word) (shared_rows s) sum c.smallest-word.result word c.smallest-word.ensures),
-      subst (λ (t : Option (List ℕ)). IfSome t (IsTally A n s.base.words.now c.new.result.word)) (sym c.new.ensures.tally) tt,
-    )
+    let word = leaf_legal A L n c.args.leaves.now c.args.start c.requires.start c.requires.words c.loop-place.place sum (omega arith) c.add.ensures in
+    alias_word A L n (space_at A L n sum word) (shared_rows s) sum c.smallest-word.result word c.smallest-word.ensures
 
 -- one sum more that stands behind
 pub loop-place-preserved : goal.loop-place-preserved
@@ -82,7 +80,7 @@ loop-place-preserved g c j l m =
     let value = leaf_value A L n leaves c.args.start c.requires.start c.requires.words k sum (omega arith) c.add.ensures in
     let all : c.words-words.result.now ≡ words = c.words-words.ensures in
     let last : c.candidate-last.result.word ≡ get_or words (length words - 1) 0 = c.candidate-last.ensures.word ∙ ap (λ (us : List ℕ). get_or us (length us - 1) 0) all in
-    let later = subst (NoLater (order_of A g.P.Preference.good s) c.candidate-last.result.word) c.new.ensures.word (OnTrue_at c.if-not-precedes-2.false c.precedes-in-loop-place.ensures.yes) in
+    let later = OnTrue_at c.if-not-precedes_next.false c.precedes_next.ensures.yes in
     elim (cases_eq j k) [
       | inr d ↦ c.loop-place.invariant j l (omega (arith, d))
       | inl e ↦ subst (λ (i : ℕ). OfferedTo A g.P.Preference.good s (Leaf A n shared leaves c.args.start i) words c.args.progress.now) (sym e)
@@ -104,9 +102,9 @@ returns-then-not-precedes-clause-some g c =
     )
 
 -- the first sum that does not stand behind, again
-pub returns-then-not-precedes-2-clause-some : goal.returns-then-not-precedes-2-clause-some
-returns-then-not-precedes-2-clause-some g c =
-    let found = c.least_at-then-not-precedes-2 in
+pub returns-then-not-precedes_next-clause-some : goal.returns-then-not-precedes_next-clause-some
+returns-then-not-precedes_next-clause-some g c =
+    let found = c.least_at-then-not-precedes_next in
     let at = found.ensures.place in (
       omega (arith, at, c.loop-place.auto.place),
       omega (arith, at, c.loop-place-test.true),

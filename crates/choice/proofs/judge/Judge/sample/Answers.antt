@@ -64,14 +64,12 @@ offer_leaves-requires-clause-start g c =
     let n = s.factors in
     let known = basis_rows s.known in
     let whole = basis_rows s.whole in
-    let rows = c.rows.result.now in
-    let k = c.len.result in
-    let added = take (length rows - k) (drop k rows) in
-    let is : added ≡ drop (length known) whole = take_rest rows k ∙ ap (λ (i : ℕ). drop i rows) c.len.ensures.count ∙ ap (drop (length known)) c.rows.ensures in
+    let all_rows = c.rows-then-shared-eq0.result.now in
+    let is : all_rows ≡ drop 0 whole = c.rows-then-shared-eq0.ensures in
     let before = c.list_sums.result.0.now in
     let split = c.list_sums.ensures.words in
     let i = c.loop-row.row-index in
-    (start_generated A L n whole s.all.words (length known) added before is split c.loop-row.start i c.add-start.result c.loop-row-test.true c.loop-row.invariant.start c.add-start.ensures).0
+    (start_generated A L n whole s.all.words 0 all_rows before is split c.loop-row.start i c.add-start.result c.loop-row-test.true c.loop-row.invariant.start c.add-start.ensures).0
 
 -- so are the sums
 pub offer_leaves-requires-clause-words : goal.offer_leaves-requires-clause-words
@@ -82,15 +80,13 @@ offer_leaves-requires-clause-words g c =
     let n = s.factors in
     let known = basis_rows s.known in
     let whole = basis_rows s.whole in
-    let rows = c.rows.result.now in
-    let k = c.len.result in
-    let added = take (length rows - k) (drop k rows) in
-    let is : added ≡ drop (length known) whole = take_rest rows k ∙ ap (λ (i : ℕ). drop i rows) c.len.ensures.count ∙ ap (drop (length known)) c.rows.ensures in
+    let all_rows = c.rows-then-shared-eq0.result.now in
+    let is : all_rows ≡ drop 0 whole = c.rows-then-shared-eq0.ensures in
     let before = c.list_sums.result.0.now in
     let split = c.list_sums.ensures.words in
     let i = c.loop-row.row-index in
     subst (AllWords A n) (sym (c.as_slice.ensures ∙ c.list_sums.ensures.sums))
-    (combinations_words A L n (drop (length before) added) (get_or before i 0) (first_word A L n whole s.all.words (length known) added before is split i c.loop-row-test.true))
+    (combinations_words A L n (drop (length before) all_rows) (get_or before i 0) (first_word A L n whole s.all.words 0 all_rows before is split i c.loop-row-test.true))
 
 -- one start more
 pub loop-row-preserved : goal.loop-row-preserved
@@ -101,22 +97,20 @@ loop-row-preserved g c =
     let n = s.factors in
     let known = basis_rows s.known in
     let whole = basis_rows s.whole in
-    let rows = c.rows.result.now in
-    let k = c.len.result in
-    let added = take (length rows - k) (drop k rows) in
-    let is : added ≡ drop (length known) whole = take_rest rows k ∙ ap (λ (i : ℕ). drop i rows) c.len.ensures.count ∙ ap (drop (length known)) c.rows.ensures in
+    let all_rows = c.rows-then-shared-eq0.result.now in
+    let is : all_rows ≡ drop 0 whole = c.rows-then-shared-eq0.ensures in
     let before = c.list_sums.result.0.now in
     let split = c.list_sums.ensures.words in
     let i = c.loop-row.row-index in
     let inside = shared_generates A L n known whole s.alike s.front in
-    let all : c.as_slice.result.now ≡ combinations A n (drop (length before) added) = c.as_slice.ensures ∙ c.list_sums.ensures.sums in
-    let next = start_generated A L n whole s.all.words (length known) added before is split c.loop-row.start i c.add-start.result c.loop-row-test.true c.loop-row.invariant.start c.add-start.ensures in
+    let all : c.as_slice.result.now ≡ combinations A n (drop (length before) all_rows) = c.as_slice.ensures ∙ c.list_sums.ensures.sums in
+    let next = start_generated A L n whole s.all.words 0 all_rows before is split c.loop-row.start i c.add-start.result c.loop-row-test.true c.loop-row.invariant.start c.add-start.ensures in
     let words : AllWords A n c.as_slice.result.now = subst (AllWords A n) (sym all)
-    (combinations_words A L n (drop (length before) added) (get_or before i 0) (first_word A L n whole s.all.words (length known) added before is split i c.loop-row-test.true)) in
+    (combinations_words A L n (drop (length before) all_rows) (get_or before i 0) (first_word A L n whole s.all.words 0 all_rows before is split i c.loop-row-test.true)) in
     record {
       start = next.1;
       kept = (c.offer_leaves.ensures.0.kept, c.offer_leaves.ensures.1, c.requires);
       generated = all_generated A L n whole (Spread A n (shared_rows s) [] c.as_slice.result.now c.add-start.result)
-          (leaf_generated A L n whole (shared_rows s) inside c.as_slice.result.now c.add-start.result next.0 words next.1 (last_generated A L n whole s.all.words (length known) added before is split c.as_slice.result.now all))
+          (leaf_generated A L n whole (shared_rows s) inside c.as_slice.result.now c.add-start.result next.0 words next.1 (last_generated A L n whole s.all.words 0 all_rows before is split c.as_slice.result.now all))
           (words_of c.loop-row.progress) (words_of c.offer_leaves.new.progress) c.loop-row.invariant.generated c.offer_leaves.ensures.0.from;
     }
