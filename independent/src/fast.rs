@@ -1,5 +1,5 @@
-//! The same questions in plain fast Rust: words in machine words, one sum a word, elimination for membership, counts in
-//! small arrays, and no allocation.
+//! The same questions in plain Rust, written for speed alone: words in machine words, lists of sums, elimination for membership,
+//! counts in small arrays. Each word, or alias set, is judged once.
 
 /// The arithmetic of levels on words in a packed form of their own.
 pub trait Levels {
@@ -340,6 +340,13 @@ impl Plan {
         }
         counts[0] = 0;
         counts
+    }
+
+    /// The lengths of all words that the defining words generate, added up: one sum and one population count a word.
+    pub fn all_lengths<L: Levels>(&self) -> u64 {
+        let mut total = 0;
+        walk::<L>(self.defining(), 0, |word| total += L::length(word) as u64);
+        total
     }
 
     /// The base list and the further words of a side.

@@ -8,8 +8,9 @@ use std::time::Instant;
 
 const SEED: u64 = 20_260_101;
 
-const ITEMS: [&str; 16] = [
+const ITEMS: [&str; 17] = [
     "read",
+    "lengths",
     "pattern",
     "defining-shortest",
     "defining-longest",
@@ -174,6 +175,8 @@ fn theirs_of<L: fast::Levels>(case: &Case, item: &str) -> Option<Given> {
     }
     Some(match item {
         "read" => vec![plan.n.into()],
+        // of this side alone: what one sum and one population count a word cost
+        "lengths" => vec![plan.all_lengths::<L>()],
         "pattern" => plan.pattern::<L>()[1..].iter().map(|&count| count.into()).collect(),
         "clear" if L::S == 2 => {
             let mut bytes = [0u8; 496];
