@@ -14,7 +14,7 @@ use levels::Levels;
 use preferences::{Candidate, Preference};
 
 // The alias sets of so few rows are small.
-const SMALL: usize = 4;
+pub(crate) const SMALL: usize = 4;
 
 // The best words so far, and the candidates of those that entered last.
 #[derive(Drop)]

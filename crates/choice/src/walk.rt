@@ -8,7 +8,7 @@ ghost use Rattle.choice.specs.Search.{Coset, Led, Offered, OneOf, Spread};
 
 use crate::chosen::Chosen;
 use crate::judge::Judge;
-use crate::progress::Progress;
+use crate::progress::{Progress, SMALL};
 use levels::Levels;
 use levels::span::list_sums;
 use preferences::Preference;
@@ -31,7 +31,7 @@ impl<'a, L: Levels, P: Preference<L>> Judge<'a, L, P> {
     }
 
     // The best of some words that lie far apart, so that most words of the walk stand behind them at once: the added rows, and
-    // sums of the first of them with all sums of the last ones. Of alias sets there are few, and each is counted in full.
+    // sums of the first of them with all sums of the last ones. Of large alias sets there are few.
     fn sample(&self) -> Progress
         requires { OnTrue self.now.alike (EqualAliases L.model (P.good self.now.preference.now)) }
         ensures kept { KeptBy L.model P.good self.now result }
@@ -40,8 +40,9 @@ impl<'a, L: Levels, P: Preference<L>> Judge<'a, L, P> {
         let mut progress = self.start();
         let rows = &self.whole.rows()[self.known.len()..];
         self.offer_all(&mut progress, rows);
-        if self.shared() == 0 {
-            let (before, sums) = list_sums::<L>(self.factors, self.whole.rows());
+        let from = self.shared();
+        if self.room > 0 && from <= SMALL {
+            let (before, sums) = list_sums::<L>(self.factors, &self.whole.rows()[from..]);
             let mut start = 0;
             for row in before {
                 start = L::add(start, *row);

@@ -26,11 +26,12 @@ impl<L: Levels> Preference<L> for LeastAberration {
         true
     }
 
+    #[inline(always)]
     fn prefer(&self, base: &Span<L>, a: u64, b: u64) -> Verdict {
         if base.words().is_empty() {
             longer::<L>(a, b)
         } else {
-            fewer(&base.tally(a), &base.tally(b))
+            fewer_of_words(base, a, b)
         }
     }
 
@@ -61,6 +62,22 @@ fn longer<L: Levels>(a: u64, b: u64) -> Verdict
         result ≡ verdict_of (nat_le second first) (nat_le first second) }
 {
     smaller(u64::from(L::length(b)), u64::from(L::length(a)))
+}
+
+// Of two words, the one whose aliases have fewer of the first length in which they differ.
+#[inline(never)]
+fn fewer_of_words<L: Levels>(base: &Span<L>, a: u64, b: u64) -> Verdict
+    ensures {
+        let n = base.now.factors in
+        let words = base.now.words.now in
+        let good = least_aberration L.model in
+        fair L.model n words ≡ true →
+        Word L.model n a →
+        Word L.model n b →
+        result ≡ verdict_of (good n words a b) (good n words b a)
+    }
+{
+    fewer(&base.tally(a), &base.tally(b))
 }
 
 // The same of two candidates, whose tallies are counted where they are not known.

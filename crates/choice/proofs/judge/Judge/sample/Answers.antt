@@ -36,8 +36,8 @@ loop-row-init g c =
     }
 
 -- they alone, where alias sets are judged
-pub returns-else-shared-eq0-clause-generated : goal.returns-else-shared-eq0-clause-generated
-returns-else-shared-eq0-clause-generated g c =
+pub returns-else-self-gt0-clause-generated : goal.returns-else-shared-eq0-clause-generated
+returns-else-self-gt0-clause-generated g c =
     let A = g.L.Levels.model in
     let L = g.met.L.Levels.lawful in
     let s = c.args.self.now in
@@ -64,12 +64,14 @@ offer_leaves-requires-clause-start g c =
     let n = s.factors in
     let known = basis_rows s.known in
     let whole = basis_rows s.whole in
-    let all_rows = c.rows-then-shared-eq0.result.now in
-    let is : all_rows ≡ drop 0 whole = c.rows-then-shared-eq0.ensures in
+    let rows = c.rows-then-from-le-SMALL.result.now in
+    let k = c.shared-from.result in
+    let all_rows = take (length rows - k) (drop k rows) in
+    let is : all_rows ≡ drop k whole = take_rest rows k ∙ ap (drop k) c.rows-then-from-le-SMALL.ensures in
     let before = c.list_sums.result.0.now in
     let split = c.list_sums.ensures.words in
     let i = c.loop-row.row-index in
-    (start_generated A L n whole s.all.words 0 all_rows before is split c.loop-row.start i c.add-start.result c.loop-row-test.true c.loop-row.invariant.start c.add-start.ensures).0
+    (start_generated A L n whole s.all.words k all_rows before is split c.loop-row.start i c.add-start.result c.loop-row-test.true c.loop-row.invariant.start c.add-start.ensures).0
 
 -- so are the sums
 pub offer_leaves-requires-clause-words : goal.offer_leaves-requires-clause-words
@@ -80,13 +82,15 @@ offer_leaves-requires-clause-words g c =
     let n = s.factors in
     let known = basis_rows s.known in
     let whole = basis_rows s.whole in
-    let all_rows = c.rows-then-shared-eq0.result.now in
-    let is : all_rows ≡ drop 0 whole = c.rows-then-shared-eq0.ensures in
+    let rows = c.rows-then-from-le-SMALL.result.now in
+    let k = c.shared-from.result in
+    let all_rows = take (length rows - k) (drop k rows) in
+    let is : all_rows ≡ drop k whole = take_rest rows k ∙ ap (drop k) c.rows-then-from-le-SMALL.ensures in
     let before = c.list_sums.result.0.now in
     let split = c.list_sums.ensures.words in
     let i = c.loop-row.row-index in
     subst (AllWords A n) (sym (c.as_slice.ensures ∙ c.list_sums.ensures.sums))
-    (combinations_words A L n (drop (length before) all_rows) (get_or before i 0) (first_word A L n whole s.all.words 0 all_rows before is split i c.loop-row-test.true))
+    (combinations_words A L n (drop (length before) all_rows) (get_or before i 0) (first_word A L n whole s.all.words k all_rows before is split i c.loop-row-test.true))
 
 -- one start more
 pub loop-row-preserved : goal.loop-row-preserved
@@ -97,20 +101,22 @@ loop-row-preserved g c =
     let n = s.factors in
     let known = basis_rows s.known in
     let whole = basis_rows s.whole in
-    let all_rows = c.rows-then-shared-eq0.result.now in
-    let is : all_rows ≡ drop 0 whole = c.rows-then-shared-eq0.ensures in
+    let rows = c.rows-then-from-le-SMALL.result.now in
+    let k = c.shared-from.result in
+    let all_rows = take (length rows - k) (drop k rows) in
+    let is : all_rows ≡ drop k whole = take_rest rows k ∙ ap (drop k) c.rows-then-from-le-SMALL.ensures in
     let before = c.list_sums.result.0.now in
     let split = c.list_sums.ensures.words in
     let i = c.loop-row.row-index in
     let inside = shared_generates A L n known whole s.alike s.front in
     let all : c.as_slice.result.now ≡ combinations A n (drop (length before) all_rows) = c.as_slice.ensures ∙ c.list_sums.ensures.sums in
-    let next = start_generated A L n whole s.all.words 0 all_rows before is split c.loop-row.start i c.add-start.result c.loop-row-test.true c.loop-row.invariant.start c.add-start.ensures in
+    let next = start_generated A L n whole s.all.words k all_rows before is split c.loop-row.start i c.add-start.result c.loop-row-test.true c.loop-row.invariant.start c.add-start.ensures in
     let words : AllWords A n c.as_slice.result.now = subst (AllWords A n) (sym all)
-    (combinations_words A L n (drop (length before) all_rows) (get_or before i 0) (first_word A L n whole s.all.words 0 all_rows before is split i c.loop-row-test.true)) in
+    (combinations_words A L n (drop (length before) all_rows) (get_or before i 0) (first_word A L n whole s.all.words k all_rows before is split i c.loop-row-test.true)) in
     record {
       start = next.1;
       kept = (c.offer_leaves.ensures.0.kept, c.offer_leaves.ensures.1, c.requires);
       generated = all_generated A L n whole (Spread A n (shared_rows s) [] c.as_slice.result.now c.add-start.result)
-          (leaf_generated A L n whole (shared_rows s) inside c.as_slice.result.now c.add-start.result next.0 words next.1 (last_generated A L n whole s.all.words 0 all_rows before is split c.as_slice.result.now all))
+          (leaf_generated A L n whole (shared_rows s) inside c.as_slice.result.now c.add-start.result next.0 words next.1 (last_generated A L n whole s.all.words k all_rows before is split c.as_slice.result.now all))
           (words_of c.loop-row.progress) (words_of c.offer_leaves.new.progress) c.loop-row.invariant.generated c.offer_leaves.ensures.0.from;
     }
