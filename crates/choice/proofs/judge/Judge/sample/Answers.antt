@@ -36,7 +36,7 @@ loop-row-init g c =
     }
 
 -- they alone, where alias sets are judged
-pub returns-else-self-gt0-clause-generated : goal.returns-else-shared-eq0-clause-generated
+pub returns-else-self-gt0-clause-generated : goal.returns-else-self-gt0-clause-generated
 returns-else-self-gt0-clause-generated g c =
     let A = g.L.Levels.model in
     let L = g.met.L.Levels.lawful in
