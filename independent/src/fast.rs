@@ -1,5 +1,5 @@
-//! The same questions in plain fast Rust: words in machine words, one sum a word, elimination for membership, counts in
-//! small arrays, and no allocation.
+//! The same questions in plain Rust, written for speed alone: words in machine words, lists of sums, elimination for membership,
+//! counts in small arrays. Each word, or alias set, is judged once.
 
 /// The arithmetic of levels on words in a packed form of their own.
 pub trait Levels {
@@ -17,6 +17,10 @@ pub trait Levels {
     fn lead(word: u64) -> u32;
     /// The digit of a factor.
     fn digit(word: u64, factor: u32) -> u8;
+    /// The factors whose digit is not 0, one bit each.
+    fn factors(word: u64) -> u32;
+    /// A word less the multiple of a row that makes its digit at the row's last factor 0. The row has digit 1 there.
+    fn without(word: u64, row: u64, lead: u32) -> u64;
 }
 
 pub struct Two;
@@ -57,6 +61,16 @@ impl Levels for Two {
     fn digit(word: u64, factor: u32) -> u8 {
         (word >> factor & 1) as u8
     }
+
+    #[inline(always)]
+    fn factors(word: u64) -> u32 {
+        word as u32
+    }
+
+    #[inline(always)]
+    fn without(word: u64, row: u64, _lead: u32) -> u64 {
+        word.min(word ^ row)
+    }
 }
 
 /// Three levels: the factors at level 1 in the low half, those at level 2 in the high half.
@@ -94,7 +108,7 @@ impl Levels for Three {
 
     #[inline(always)]
     fn length(word: u64) -> usize {
-        (word as u32 | (word >> 32) as u32).count_ones() as usize
+        Self::factors(word).count_ones() as usize
     }
 
     #[inline(always)]
@@ -117,38 +131,90 @@ impl Levels for Three {
     fn digit(word: u64, factor: u32) -> u8 {
         ((word >> factor & 1) + 2 * (word >> (factor + 32) & 1)) as u8
     }
+
+    #[inline(always)]
+    fn factors(word: u64) -> u32 {
+        word as u32 | (word >> 32) as u32
+    }
+
+    #[inline(always)]
+    fn without(word: u64, row: u64, lead: u32) -> u64 {
+        if word >> lead & 1 != 0 {
+            // less the row: plus the row with its digits changed
+            Self::add(word, row.rotate_left(32))
+        } else if word >> (lead + 32) & 1 != 0 {
+            Self::add(word, row)
+        } else {
+            word
+        }
+    }
 }
 
 /// How many words there are of each length.
 pub type Counts = [u32; 33];
 
-/// Goes through a start plus each sum of multiples of words, with one sum a word.
-#[inline(always)]
-fn walk<L: Levels>(words: &[u64], start: u64, mut visit: impl FnMut(u64)) {
-    let mut word = start;
-    visit(word);
-    if L::S == 2 {
-        for k in 1u32..1 << words.len() {
-            word = L::add(word, words[k.trailing_zeros() as usize]);
-            visit(word);
+/// At most so many sums are listed at once.
+const LISTED: usize = 256;
+
+/// All sums of multiples of words.
+fn sums<L: Levels>(words: &[u64]) -> Vec<u64> {
+    let mut list = Vec::with_capacity(L::S.pow(words.len() as u32));
+    list.push(0);
+    for &word in words {
+        let len = list.len();
+        for i in 0..len * (L::S - 1) {
+            list.push(L::add(list[i], word));
         }
-    } else {
-        // a counter in base 3: the place that goes up by one says which word is added
+    }
+    list
+}
+
+/// The sums of multiples of the last words, and the words before these.
+struct Spread<'a> {
+    before: &'a [u64],
+    leaves: Vec<u64>,
+}
+
+impl<'a> Spread<'a> {
+    fn new<L: Levels>(words: &'a [u64]) -> Spread<'a> {
+        let mut split = words.len();
+        let mut count = 1;
+        while split > 0 && count * L::S <= LISTED {
+            split -= 1;
+            count *= L::S;
+        }
+        Spread { before: &words[..split], leaves: sums::<L>(&words[split..]) }
+    }
+
+    /// Goes through a start plus each sum of multiples of the words, with one sum a word.
+    #[inline(always)]
+    fn walk<L: Levels>(&self, start: u64, visit: &mut impl FnMut(u64)) {
         let mut counter = [0u8; 17];
+        let mut word = start;
         loop {
+            for &leaf in &self.leaves {
+                visit(L::add(word, leaf));
+            }
+            // a counter in base s: the place that goes up by one says which word is added
             let mut place = 0;
-            while counter[place] == 2 {
+            while counter[place] == L::S as u8 - 1 && place < self.before.len() {
+                word = L::add(word, self.before[place]);
                 counter[place] = 0;
                 place += 1;
             }
-            if place >= words.len() {
+            if place >= self.before.len() {
                 return;
             }
             counter[place] += 1;
-            word = L::add(word, words[place]);
-            visit(word);
+            word = L::add(word, self.before[place]);
         }
     }
+}
+
+/// Goes through a start plus each sum of multiples of words, with one sum a word.
+#[inline(always)]
+fn walk<L: Levels>(words: &[u64], start: u64, mut visit: impl FnMut(u64)) {
+    Spread::new::<L>(words).walk::<L>(start, &mut visit);
 }
 
 /// Words with different last factors, by that factor.
@@ -276,23 +342,75 @@ impl Plan {
         counts
     }
 
-    /// The shortest generators of the defining words.
-    pub fn shortest<L: Levels>(&self) -> ([u64; 16], usize) {
-        choose::<L>(&[], self.defining(), |a, b| match L::length(a).cmp(&L::length(b)) {
-            std::cmp::Ordering::Equal => L::smaller(a, b),
-            order => order.is_lt(),
+    /// The lengths of all words that the defining words generate, added up: one sum and one population count a word.
+    pub fn all_lengths<L: Levels>(&self) -> u64 {
+        let mut total = 0;
+        walk::<L>(self.defining(), 0, |word| total += L::length(word) as u64);
+        total
+    }
+
+    /// The base list and the further words of a side.
+    fn side(&self, block: bool) -> (&[u64], &[u64]) {
+        if block {
+            (self.defining(), self.block())
+        } else {
+            (&[], self.defining())
+        }
+    }
+
+    /// The shortest generators of a side.
+    pub fn shortest<L: Levels>(&self, block: bool) -> Chosen {
+        let (base, further) = self.side(block);
+        choose::<L, _>(base, further, true, L::length)
+    }
+
+    /// The longest.
+    pub fn longest<L: Levels>(&self, block: bool) -> Chosen {
+        let (base, further) = self.side(block);
+        choose::<L, _>(base, further, true, |word| 32 - L::length(word))
+    }
+
+    /// The cheapest: the costs of eight factors are looked up at once.
+    pub fn cheapest<L: Levels>(&self, block: bool, costs: &[u16; 32]) -> Chosen {
+        let (base, further) = self.side(block);
+        let table = Costs::new(costs);
+        choose::<L, _>(base, further, true, |word| table.cost(L::factors(word)))
+    }
+
+    /// Those of least aberration: each alias set is judged once.
+    pub fn least_aberration<L: Levels>(&self, block: bool) -> Chosen {
+        let (base, further) = self.side(block);
+        if base.is_empty() {
+            return choose::<L, _>(base, further, true, |word| 32 - L::length(word));
+        }
+        let mut rows = Rows::new();
+        for &word in base {
+            rows.admit::<L>(word);
+        }
+        // sums of words that are reduced by the base list are reduced
+        let reduced: Vec<u64> = further.iter().map(|&word| rows.reduce::<L>(word)).collect();
+        let spread = Spread::new::<L>(base);
+        choose::<L, _>(&[], &reduced, false, |word| {
+            let mut counts = [0u32; 33];
+            spread.walk::<L>(word, &mut |alias| counts[L::length(alias)] += 1);
+            counts
         })
     }
 
-    /// The least-aberration generators of the block words: each question counts both alias sets.
-    pub fn least_aberration<L: Levels>(&self) -> ([u64; 16], usize) {
-        let base = self.defining();
-        choose::<L>(base, self.block(), |a, b| {
-            let (first, second) = (lengths::<L>(base, a), lengths::<L>(base, b));
-            match first.cmp(&second) {
-                std::cmp::Ordering::Equal => L::smaller(a, b),
-                order => order.is_lt(),
-            }
+    /// The cheapest, and those of least aberration among equally cheap words: alias sets are counted where costs are equal.
+    pub fn cheapest_then_least_aberration<L: Levels>(&self, block: bool, costs: &[u16; 32]) -> Chosen {
+        let (base, further) = self.side(block);
+        let table = Costs::new(costs);
+        let spread = Spread::new::<L>(base);
+        choose_by::<L>(base, further, |a, b| {
+            table.cost(L::factors(a)).cmp(&table.cost(L::factors(b))).then_with(|| {
+                let counts = |word| {
+                    let mut counts = [0u32; 33];
+                    spread.walk::<L>(word, &mut |alias| counts[L::length(alias)] += 1);
+                    counts
+                };
+                counts(a).cmp(&counts(b))
+            })
         })
     }
 
@@ -473,10 +591,10 @@ impl Plan {
             page.number(count);
         }
         page.text(b"\ndefining");
-        let (words, len) = self.shortest::<L>();
+        let (words, len) = self.shortest::<L>(false);
         words[..len].iter().for_each(|&word| page.word::<L>(word));
         page.text(b"\nblocks");
-        let (words, len) = self.least_aberration::<L>();
+        let (words, len) = self.least_aberration::<L>(true);
         words[..len].iter().for_each(|&word| page.word::<L>(word));
         page.text(b"\n");
         if L::S == 2 {
@@ -527,51 +645,196 @@ impl Page<'_> {
     }
 }
 
-/// How many words of an alias set have each length.
-#[inline(always)]
-fn lengths<L: Levels>(base: &[u64], word: u64) -> Counts {
-    let mut counts = [0; 33];
-    walk::<L>(base, word, |alias| counts[L::length(alias)] += 1);
-    counts
+/// Sums of the costs of eight factors at once.
+struct Costs {
+    sums: [[u32; 256]; 4],
 }
 
-/// The generators beyond a base list, in packed words: each fresh word is visited once, and asked about once.
-fn choose<L: Levels>(base: &[u64], further: &[u64], mut better: impl FnMut(u64, u64) -> bool) -> ([u64; 16], usize) {
-    let mut known = [0u64; 16];
-    let mut len = base.len();
-    known[..len].copy_from_slice(base);
-    let mut rows = Rows::new();
-    for &word in base {
-        rows.admit::<L>(word);
-    }
-    let mut chosen = [0u64; 16];
-    for step in 0..further.len() {
-        let mut whole = rows.clone();
-        let mut beyond = [0u64; 16];
-        let mut more = 0;
-        for &word in further {
-            if whole.admit::<L>(word) {
-                beyond[more] = word;
-                more += 1;
+impl Costs {
+    fn new(costs: &[u16; 32]) -> Costs {
+        let mut sums = [[0u32; 256]; 4];
+        for (list, costs) in sums.iter_mut().zip(costs.chunks_exact(8)) {
+            for (i, &cost) in costs.iter().enumerate() {
+                for j in 0..1 << i {
+                    list[j + (1 << i)] = list[j] + u32::from(cost);
+                }
             }
         }
-        let mut best = None;
-        let mut seen = false;
-        walk::<L>(&beyond[..more], 0, |coset| {
-            if !seen {
-                seen = true;
-                return;
-            }
-            walk::<L>(&known[..len], coset, |word| match best {
-                Some(other) if !better(word, other) => {}
-                _ => best = Some(word),
-            });
-        });
-        let word = best.expect("a fresh word");
-        rows.admit::<L>(word);
-        known[len] = word;
-        len += 1;
-        chosen[step] = word;
+        Costs { sums }
     }
-    (chosen, further.len())
+
+    #[inline(always)]
+    fn cost(&self, factors: u32) -> u32 {
+        self.sums[0][factors as usize & 255]
+            + self.sums[1][(factors >> 8) as usize & 255]
+            + self.sums[2][(factors >> 16) as usize & 255]
+            + self.sums[3][(factors >> 24) as usize]
+    }
+}
+
+/// Chosen words, in packed form, and how many there are.
+pub type Chosen = ([u64; 16], usize);
+
+/// Rows in the order in which they were admitted, each with its last factor, digit 1 there.
+#[derive(Clone, Copy)]
+struct Ladder {
+    rows: [(u64, u32); 32],
+    len: usize,
+}
+
+impl Ladder {
+    fn new<L: Levels>(words: &[u64]) -> Ladder {
+        let mut ladder = Ladder { rows: [(0, 0); 32], len: 0 };
+        words.iter().for_each(|&word| {
+            ladder.admit::<L>(word);
+        });
+        ladder
+    }
+
+    /// What the first rows leave of a word.
+    #[inline(always)]
+    fn left<L: Levels>(&self, count: usize, mut word: u64) -> u64 {
+        for &(row, lead) in &self.rows[..count] {
+            word = L::without(word, row, lead);
+        }
+        word
+    }
+
+    fn admit<L: Levels>(&mut self, word: u64) -> bool {
+        let left = self.left::<L>(self.len, word);
+        if left == 0 {
+            return false;
+        }
+        let lead = L::lead(left);
+        let row = if L::digit(left, lead) == 2 { L::add(left, left) } else { left };
+        self.rows[self.len] = (row, lead);
+        self.len += 1;
+        true
+    }
+}
+
+/// The best independent words so far, in order: by a key, the smaller first, and among equals by code.
+struct Best<K> {
+    base: usize,
+    ladder: Ladder,
+    words: Vec<(K, u64)>,
+    room: usize,
+}
+
+impl<K: Ord + Copy> Best<K> {
+    fn new<L: Levels>(base: &[u64], room: usize) -> Best<K> {
+        let ladder = Ladder::new::<L>(base);
+        Best { base: ladder.len, ladder, words: Vec::with_capacity(17), room }
+    }
+
+    #[inline(always)]
+    fn ahead<L: Levels>(a: &(K, u64), b: &(K, u64)) -> bool {
+        match a.0.cmp(&b.0) {
+            std::cmp::Ordering::Equal => L::smaller(a.1, b.1),
+            order => order.is_lt(),
+        }
+    }
+
+    /// A word that stands before the last: unless those before it generate it, it is put in, and the first that this makes
+    /// superfluous goes.
+    #[inline(never)]
+    fn put<L: Levels>(&mut self, word: (K, u64)) {
+        let mut place = self.words.len();
+        while place > 0 && Self::ahead::<L>(&word, &self.words[place - 1]) {
+            place -= 1;
+        }
+        if self.ladder.left::<L>(self.base + place, word.1) == 0 {
+            return;
+        }
+        self.ladder.len = self.base + place;
+        self.ladder.admit::<L>(word.1);
+        let mut superfluous = None;
+        for i in place..self.words.len() {
+            if !self.ladder.admit::<L>(self.words[i].1) {
+                superfluous = Some(i);
+            }
+        }
+        if let Some(i) = superfluous {
+            self.words.remove(i);
+        }
+        self.words.insert(place, word);
+    }
+
+    #[inline(always)]
+    fn offer<L: Levels>(&mut self, key: K, word: u64) {
+        if self.words.len() == self.room && !Self::ahead::<L>(&(key, word), &self.words[self.room - 1]) {
+            return;
+        }
+        self.put::<L>((key, word));
+    }
+}
+
+/// Goes through the words that a base list and further words generate, and the base list does not: by the last further
+/// word in them. Samples that lie far apart come first, if they are wanted: then most words are soon behind.
+#[inline(always)]
+fn beyond<L: Levels>(base: &[u64], further: &[u64], samples: bool, mut visit: impl FnMut(u64)) {
+    further.iter().for_each(|&word| visit(word));
+    if samples {
+        let (first, last) = further.split_at(further.len().saturating_sub(if L::S == 2 { 6 } else { 4 }));
+        let leaves = sums::<L>(last);
+        let mut start = 0;
+        for &word in first {
+            start = L::add(start, word);
+            leaves.iter().for_each(|&leaf| visit(L::add(start, leaf)));
+        }
+    }
+    let mut before: Vec<u64> = base.to_vec();
+    for &word in further {
+        let spread = Spread::new::<L>(&before);
+        let mut start = 0;
+        for _ in 1..L::S {
+            start = L::add(start, word);
+            spread.walk::<L>(start, &mut visit);
+        }
+        before.push(word);
+    }
+}
+
+/// The generators beyond a base list, in packed words: each word gets its key once, and most are behind the last of the
+/// best words so far.
+#[inline(always)]
+fn choose<L: Levels, K: Ord + Copy>(base: &[u64], further: &[u64], samples: bool, mut key: impl FnMut(u64) -> K) -> Chosen {
+    let mut best = Best::new::<L>(base, further.len());
+    beyond::<L>(base, further, samples, |word| best.offer::<L>(key(word), word));
+    let mut chosen = [0u64; 16];
+    best.words.iter().enumerate().for_each(|(i, word)| chosen[i] = word.1);
+    (chosen, best.words.len())
+}
+
+/// The same by questions about two words.
+#[inline(always)]
+fn choose_by<L: Levels>(base: &[u64], further: &[u64], order: impl Fn(u64, u64) -> std::cmp::Ordering) -> Chosen {
+    let ahead = |a: u64, b: u64| match order(a, b) {
+        std::cmp::Ordering::Equal => L::smaller(a, b),
+        order => order.is_lt(),
+    };
+    let mut words: Vec<u64> = Vec::with_capacity(17);
+    let mut ladder = Ladder::new::<L>(base);
+    let known = ladder.len;
+    beyond::<L>(base, further, true, |word| {
+        if words.len() == further.len() && !ahead(word, words[words.len() - 1]) {
+            return;
+        }
+        let mut place = words.len();
+        while place > 0 && ahead(word, words[place - 1]) {
+            place -= 1;
+        }
+        if ladder.left::<L>(known + place, word) == 0 {
+            return;
+        }
+        ladder.len = known + place;
+        ladder.admit::<L>(word);
+        if let Some(i) = (place..words.len()).filter(|&i| !ladder.admit::<L>(words[i])).last() {
+            words.remove(i);
+        }
+        words.insert(place, word);
+    });
+    let mut chosen = [0u64; 16];
+    chosen[..words.len()].copy_from_slice(&words);
+    (chosen, words.len())
 }

@@ -12,7 +12,7 @@ use Rattle.levels.proofs.Generation.{space, space_of_none, generates_word}
 use Rattle.levels.proofs.Any.{in_range_or_none, none_trans, any_zero, any_left, any_right, any_trans, any_push, any_or_not, any_place}
 use Rattle.levels.proofs.Space.{vector_space}
 use Rattle.levels.proofs.Sets.{holds_none, generated_same}
-use Rattle.choice.proofs.Best.{TotalOn, TransitiveOn, IsBest, cases_option, best_member, best_none, best_some, best_is, best_same, fresh_holds, fresh_rising}
+use Rattle.choice.proofs.BestWord.{TotalOn, TransitiveOn, IsBest, cases_option, best_member, best_none, best_some, best_is, best_same, fresh_holds, fresh_rising}
 
 -- words that neither base nor the words before them generate are no more than the words that generate them together with base
 chosen_over : (S : Space) (base us further : List ℕ) → ((i : ℕ) → i < length us → Gen S (base ++ take i us) (get_or us i 0) → ⊥) → ((i : ℕ) → i < length us → Gen S (base ++ further) (get_or us i 0)) → length us ≤ length further

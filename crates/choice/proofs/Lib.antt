@@ -1,5 +1,8 @@
-pub mod Best
+pub mod BestWord
 pub mod Greedy
-pub mod Tops
 pub mod Sums
-pub mod Turns
+pub mod Sieve
+pub mod Rows
+pub mod Offers
+pub mod Samples
+pub mod BestOf

@@ -1,44 +1,30 @@
 -- What the search goes through, and what it finds.
-use Rattle.std.specs.Prelude.{◌≡◌, ◌≢◌, ℕ, ◌<◌, ◌≤◌, min, Bool, true, List, [], ◌∷◌, length, take, Some, None, Option, slice_index}
+use Rattle.std.specs.Prelude.{◌≡◌, ℕ, ◌+◌, ◌<◌, ◌≤◌, Bool, true, false, cond, ◌||◌, ◌⊎◌, nat_le, nat_lt, List, [], ◌∷◌, ◌++◌, length, take, slice_index}
 use Rattle.levels.specs.Arithmetic.{Arithmetic}
 use Rattle.levels.specs.Words.{word_sum, word_multiple}
-use Rattle.levels.specs.Space.{Word}
-use Rattle.preferences.specs.Relation.{Relation}
-use Rattle.preferences.specs.Verdicts.{verdict}
+use Rattle.levels.specs.Space.{Word, AllWords}
+use Rattle.levels.specs.Generated.{Generates, SameWords, generated, holds}
+use Rattle.levels.specs.Basis.{Echelon}
 use Rattle.preferences.specs.declared.preference.Verdict.{Verdict}
 use Rattle.preferences.specs.declared.preference.Verdict.TheVariants.{First, Second, Equal}
-
--- the word that a verdict is for, the smaller code among equals
-abbrev pub by_verdict : Verdict → ℕ → ℕ → ℕ
-by_verdict First a b = a
-by_verdict Second a b = b
-by_verdict Equal a b = min a b
-
--- the better of two words
-unfoldable pub better_of : Arithmetic → Relation → ℕ → List ℕ → ℕ → ℕ → ℕ
-better_of A good n base a b = by_verdict (verdict A good n base a b) a b
-
--- a word for which a judge decides, of two legal words
-abbrev pub Better : Arithmetic → Relation → ℕ → List ℕ → ℕ → ℕ → ℕ → Type 0
-Better A good n base a b r = Word A n a → Word A n b → r ≡ better_of A good n base a b
 
 -- w is one of the words by a level below k
 abbrev pub Below : ℕ → (ℕ → ℕ → Type 0) → ℕ → Type 0
 Below k Of w = (c : ℕ) × (c < k) × Of c w
-
--- w is the sum of a start and the leaf at a place
-abbrev pub Leaf : Arithmetic → ℕ → List ℕ → ℕ → ℕ → ℕ → Type 0
-Leaf A n leaves start k w = w ≡ word_sum A n start (slice_index leaves k)
 
 -- w is a sum of a start and multiples of the rows
 abbrev pub Coset : Arithmetic → ℕ → List ℕ → ℕ → ℕ → Type 0
 Coset A n [] start w = w ≡ start
 Coset A n (v ∷ vs) start w = Below A.s (λ c. Coset A n vs (word_sum A n start (word_multiple A n c v))) w
 
--- w is a sum of a start, multiples of the words and a leaf
-abbrev pub Spread : Arithmetic → ℕ → List ℕ → List ℕ → ℕ → ℕ → Type 0
-Spread A n [] leaves start w = Below (length leaves) (Leaf A n leaves start) w
-Spread A n (v ∷ vs) leaves start w = Below A.s (λ c. Spread A n vs leaves (word_sum A n start (word_multiple A n c v))) w
+-- w is a sum of a start, the leaf at a place and multiples of the shared rows
+abbrev pub Leaf : Arithmetic → ℕ → List ℕ → List ℕ → ℕ → ℕ → ℕ → Type 0
+Leaf A n shared leaves start k w = Coset A n shared (word_sum A n start (slice_index leaves k)) w
+
+-- w is a sum of a start, multiples of the words, a leaf and multiples of the shared rows
+abbrev pub Spread : Arithmetic → ℕ → List ℕ → List ℕ → List ℕ → ℕ → ℕ → Type 0
+Spread A n shared [] leaves start w = Below (length leaves) (Leaf A n shared leaves start) w
+Spread A n shared (v ∷ vs) leaves start w = Below A.s (λ c. Spread A n shared vs leaves (word_sum A n start (word_multiple A n c v))) w
 
 -- w is led by a word: a sum of its multiple by a level other than 0 and multiples of the rows
 abbrev pub LedBy : Arithmetic → ℕ → List ℕ → ℕ → ℕ → ℕ → Type 0
@@ -51,12 +37,54 @@ Led A n rows lead = Below A.s (LedBy A n rows lead)
 abbrev pub LedAt : Arithmetic → ℕ → List ℕ → ℕ → ℕ → ℕ → Type 0
 LedAt A n rows k i w = (k ≤ i) × Led A n (take i rows) (slice_index rows i) w
 
--- r is one of the words, at least as good as each, and the smallest code of those that are as good
-pub record Top (at_least : ℕ → ℕ → Bool) (Among : ℕ → Type 0) (r : ℕ) : Type 0 where
-  pub among : Among r
-  pub over : (y : ℕ) → Among y → (at_least r y ≡ true) × (at_least y r ≡ true → r ≤ y)
+-- a may stand before b: it is at least as good, and the smaller code among equals
+abbrev pub NoLater : (ℕ → ℕ → Bool) → ℕ → ℕ → Type 0
+NoLater at_least a b = (at_least a b ≡ true) × (at_least b a ≡ true → a ≤ b)
 
--- the same of a word that may be absent, and is so only where there is none
-abbrev pub TopOf : (ℕ → ℕ → Bool) → (ℕ → Type 0) → Option ℕ → Type 0
-TopOf at_least Among None = (y : ℕ) → Among y → ⊥
-TopOf at_least Among (Some r) = Top at_least Among r
+-- whether the first of two words stands before the second, by the verdict on them: the smaller code among equals
+abbrev pub first_stands : Verdict → ℕ → ℕ → Bool
+first_stands First a b = true
+first_stands Second a b = false
+first_stands Equal a b = nat_lt a b
+
+-- a word put behind kept words, unless there is no room for it, or base and the kept words generate it
+abbrev pub keep : Arithmetic → ℕ → ℕ → List ℕ → List ℕ → ℕ → List ℕ
+keep A n room base kept w = cond (nat_le room (length kept) || holds (generated A n (base ++ kept)) w) kept (kept ++ w ∷ [])
+
+-- the words of a list put behind kept words, one after the other
+abbrev pub sieve : Arithmetic → ℕ → ℕ → List ℕ → List ℕ → List ℕ → List ℕ
+sieve A n room base kept [] = kept
+sieve A n room base kept (w ∷ ws) = sieve A n room base (keep A n room base kept w) ws
+
+-- Words that are kept: in their order, each new over base and those before it, and no more than there is room for.
+pub record Kept (A : Arithmetic) (n : ℕ) (at_least : ℕ → ℕ → Bool) (room : ℕ) (base ours : List ℕ) : Type 0 where
+  pub words : AllWords A n ours
+  pub sorted : (i j : ℕ) → i < j → j < length ours → NoLater at_least (slice_index ours i) (slice_index ours j)
+  pub new : (i : ℕ) → i < length ours → Generates A n (base ++ take i ours) (slice_index ours i) → ⊥
+  pub few : length ours ≤ room
+
+-- Kept words leave no need of y: base and the first of them, which all may stand before y, generate y or leave no room.
+pub record Covered (A : Arithmetic) (n : ℕ) (at_least : ℕ → ℕ → Bool) (room : ℕ) (base ours : List ℕ) (y : ℕ) : Type 0 where
+  pub many : ℕ
+  pub within : many ≤ length ours
+  pub before : (j : ℕ) → j < many → NoLater at_least (slice_index ours j) y
+  pub known : Generates A n (base ++ take many ours) y ⊎ (room ≤ many)
+
+-- What becomes of kept words when some words are offered: again kept words, each of them kept before or offered; what was
+-- covered stays so, and each offered word is covered.
+pub record Offered (A : Arithmetic) (n : ℕ) (at_least : ℕ → ℕ → Bool) (room : ℕ) (base : List ℕ) (Among : ℕ → Type 0) (before after : List ℕ) : Type 0 where
+  pub kept : Kept A n at_least room base after
+  pub covered : (y : ℕ) → Among y → Covered A n at_least room base after y
+  pub still : (y : ℕ) → Word A n y → Covered A n at_least room base before y → Covered A n at_least room base after y
+  pub from : (i : ℕ) → i < length after → Among (slice_index after i) ⊎ (holds before (slice_index after i) ≡ true)
+
+-- Rows beside kept words: in echelon form, some of the base list and one for each kept word, so that the first of them generate
+-- what base and the first kept words do.
+pub record Fits (A : Arithmetic) (n : ℕ) (known base rows kept : List ℕ) : Type 0 where
+  pub echelon : Echelon A n rows
+  pub size : length rows ≡ length known + length kept
+  pub fronts : (p : ℕ) → p ≤ length kept → SameWords A n (take (length known + p) rows) (base ++ take p kept)
+
+-- w is a sum of one of the words of a list and multiples of the shared rows
+abbrev pub OneOf : Arithmetic → ℕ → List ℕ → List ℕ → ℕ → Type 0
+OneOf A n shared ws = Below (length ws) (λ i w. (i < length ws) × Coset A n shared (slice_index ws i) w)

@@ -6,7 +6,7 @@ use bounded::Bounded;
 // A plan holds at most 16 words, so no more than 16 are chosen.
 pub use levels::MOST;
 
-// Words in the order in which they were chosen.
+/// Words in the order in which they were chosen.
 #[derive(Clone, Copy)]
 pub struct Chosen(Bounded<u64, MOST>);
 
@@ -25,7 +25,7 @@ impl Chosen {
         self.0.push(word);
     }
 
-    // The words.
+    /// The words.
     pub fn words(&self) -> &[u64]
         ensures { result.now ≡ chosen_words self.now }
     {

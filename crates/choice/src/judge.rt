@@ -1,140 +1,143 @@
-// The search for the best word.
-ghost use Rattle.std.specs.Prelude.{◌≡◌, ◌<◌, [], ◌++◌, length};
-ghost use Rattle.levels.specs.Space.{AllWords, Word};
+// The order in which a search takes words.
+ghost use Rattle.std.specs.Prelude.{◌≡◌, ◌≤◌, ◌-◌, ◌++◌, length, take, min};
+ghost use Rattle.std.specs.Bool.{OnTrue, OnFalse};
+ghost use Rattle.levels.specs.Space.{Word};
 ghost use Rattle.levels.specs.Generated.{generated};
-ghost use Rattle.levels.specs.Basis.{Echelon};
+ghost use Rattle.levels.specs.Basis.{Echelon, LeastAlias};
 ghost use Rattle.levels.specs.Rows.{basis_rows};
-ghost use Rattle.preferences.specs.Relation.{fair};
-ghost use Rattle.choice.specs.Choice.{beyond, best};
-ghost use Rattle.choice.specs.Search.{Better, Coset, Led, Spread, Top};
+ghost use Rattle.preferences.specs.Relation.{fair, EqualAliases};
+ghost use Rattle.choice.specs.Search.{NoLater, first_stands};
 
-use levels::span::list_sums;
+use crate::chosen::MOST;
+use levels::basis::reduce_by;
 use levels::{Basis, Levels, Span};
-use preferences::{Preference, Verdict, fair};
+use preferences::{Candidate, Preference, Verdict, fair};
 
 // Judges words of so many factors by a preference, over a base list.
 #[derive(Drop)]
 pub(crate) struct Judge<'a, L: Levels, P> {
-    preference: &'a P,
-    factors: u8,
-    base: Span<'a, L>,
-    // Whether preferences judge by the base list. A flag, and no Option: the order of a judge speaks of the list either way.
-    able: bool,
+    pub(crate) preference: &'a P,
+    pub(crate) factors: u8,
+    pub(crate) base: Span<'a, L>,
+    // Whether preferences judge by the base list; else all words are equal.
+    pub(crate) able: bool,
+    // Whether words of one alias set over the base list are equal.
+    pub(crate) alike: bool,
+    // Rows of the base list.
+    pub(crate) known: Basis,
+    // Rows of the base list and the further words, those of the base list first.
+    pub(crate) whole: Basis,
+    // How many words are kept at most.
+    pub(crate) room: usize,
     ghost same: { base.factors ≡ factors },
-    ghost aware: { able ≡ fair L.Levels.model factors base.words.now },
+    ghost aware: { able ≡ fair L.model factors base.words.now },
+    ghost echelon: { Echelon L.model factors (basis_rows known) },
+    ghost spans: { generated L.model factors (basis_rows known) ≡ generated L.model factors base.words.now },
+    ghost all: { Echelon L.model factors (basis_rows whole) },
+    ghost front: { take (length (basis_rows known)) (basis_rows whole) ≡ basis_rows known },
+    ghost longer: { length (basis_rows known) ≤ length (basis_rows whole) },
+    ghost space: { room ≡ min 16 (length (basis_rows whole) - length (basis_rows known)) },
+    ghost few: { room ≤ 16 },
 }
 
 impl<'a, L: Levels, P: Preference<L>> Judge<'a, L, P> {
-    ghost use Rattle.choice.specs.Judged.{order_of};
+    ghost use Rattle.choice.specs.Judged.{IsFor, order_of, shared_rows};
 
-    // By a preference, for so many factors and a base list.
-    pub(crate) fn new(preference: &'a P, factors: u8, base: &'a [u64]) -> Judge<'a, L, P>
+    // By a preference, for so many factors, a base list and further words.
+    pub(crate) fn new(
+        preference: &'a P,
+        factors: u8,
+        base: &'a [u64],
+        further: &[u64],
+    ) -> Judge<'a, L, P>
         ensures preference { result.preference.now ≡ preference.now }
         ensures factors { result.factors ≡ factors }
         ensures base { result.base.words.now ≡ base.now }
+        ensures alike { OnTrue result.alike (EqualAliases L.model (P.good preference.now)) }
+        ensures whole { let rows = basis_rows result.whole in
+            generated L.model factors rows ≡ generated L.model factors (base.now ++ further.now) }
     {
+        let mut known = Basis::new();
+        known.admit_all::<L>(factors, base);
+        let mut whole = known;
+        whole.admit_all::<L>(factors, further);
+        let room = (whole.len() - known.len()).min(MOST);
         Judge {
             preference,
             factors,
             base: Span::new(factors, base),
             able: fair::<L>(factors, base),
+            alike: preference.equates_aliases(),
+            known,
+            whole,
+            room,
         }
     }
 
-    // The best word that a basis and further words generate together, and the basis alone does not. Each such word is led
-    // by one of the rows that the further words add. It asks for rows in echelon form, as `Basis::reduce` does.
-    pub(crate) fn best_fresh(&self, known: &Basis, further: &[u64]) -> Option<u64>
-        requires { Echelon L.Levels.model self.now.factors (basis_rows known.now) }
-        ensures { result ≡ best (order_of L.Levels.model P.Preference.good self.now) (beyond (generated L.Levels.model self.now.factors (basis_rows known.now ++ further.now)) (generated L.Levels.model self.now.factors (basis_rows known.now))) }
+    // Whether a word stands before another: it is better, or the smaller code among equals.
+    #[inline]
+    pub(crate) fn precedes(&self, a: &Candidate, b: &Candidate) -> bool
+        requires first { IsFor L.model self.now a.now }
+        requires second { IsFor L.model self.now b.now }
+        ensures yes { let order = order_of L.model P.good self.now in
+            OnTrue result (NoLater order a.now.word b.now.word) }
+        ensures no { let order = order_of L.model P.good self.now in
+            OnFalse result (NoLater order b.now.word a.now.word) }
     {
-        let mut whole = *known;
-        whole.admit_all::<L>(self.factors, further);
-        let rows = whole.rows();
-        let mut best = None;
-        for (i, lead) in rows.iter().enumerate().skip(known.len()) {
-            let led = self.best_led(&rows[..i], *lead);
-            // No map_or: its closure would need a contract of its own, since what `better` promises is no equation.
-            best = Some(match best {
-                Some(best) => self.better(best, led),
-                None => led,
-            });
-        }
-        best
+        let verdict = if self.able {
+            self.preference.prefer_ready(&self.base, a, b)
+        } else {
+            Verdict::Equal
+        };
+        before_second(verdict, a.word, b.word)
     }
 
-    // The best word that is led by a word: a multiple of it, other than by 0, plus what the rows generate.
-    fn best_led(&self, rows: &[u64], lead: u64) -> u64
-        requires { Word L.Levels.model self.now.factors lead }
-        ensures { Top (order_of L.Levels.model P.Preference.good self.now) (Led L.Levels.model self.now.factors rows.now lead) result }
-    {
-        let mut best = self.best_of_coset(rows, lead);
-        for level in 2..L::LEVELS {
-            let start = L::product(self.factors, level, lead);
-            let other = self.best_of_coset(rows, start);
-            best = self.better(best, other);
-        }
-        best
-    }
-
-    // The best word among the sums of a start and what the rows generate. Like its neighbours it asks for a
-    // legal start: a type that carries this would carry the factors too, and each would ask that these are the judge's instead.
-    fn best_of_coset(&self, rows: &[u64], start: u64) -> u64
-        requires { Word L.Levels.model self.now.factors start }
-        ensures { Top (order_of L.Levels.model P.Preference.good self.now) (Coset L.Levels.model self.now.factors rows.now start) result }
-    {
-        let (before, sums) = list_sums::<L>(self.factors, rows);
-        self.best_over_leaves(before, sums.as_slice(), start)
-    }
-
-    // The best word among the sums of a start, multiples of the words, and a leaf. Words, leaves and start stand apart as in
-    // `count` of span.rt.
-    fn best_over_leaves(&self, words: &[u64], leaves: &[u64], start: u64) -> u64
-        requires start { Word L.Levels.model self.now.factors start }
-        requires some { 0 < length leaves.now }
-        requires words { AllWords L.Levels.model self.now.factors leaves.now }
-        ensures { Top (order_of L.Levels.model P.Preference.good self.now) (Spread L.Levels.model self.now.factors words.now leaves.now start) result }
-    {
-        match words {
-            [] => self.best_of_leaves(leaves, start),
-            [word, rest @ ..] => {
-                let mut best = self.best_over_leaves(rest, leaves, start);
-                for level in 1..L::LEVELS {
-                    let next = L::add(start, L::product(self.factors, level, *word));
-                    best = self.better(best, self.best_over_leaves(rest, leaves, next));
-                }
-                best
-            }
-        }
-    }
-
-    // The best word among the sums of a start and each leaf.
-    fn best_of_leaves(&self, leaves: &[u64], start: u64) -> u64
-        requires start { Word L.Levels.model self.now.factors start }
-        requires some { 0 < length leaves.now }
-        requires words { AllWords L.Levels.model self.now.factors leaves.now }
-        ensures { Top (order_of L.Levels.model P.Preference.good self.now) (Spread L.Levels.model self.now.factors [] leaves.now start) result }
-    {
-        let mut best = L::add(start, leaves[0]);
-        for leaf in &leaves[1..] {
-            best = self.better(best, L::add(start, *leaf));
-        }
-        best
-    }
-
-    // The better of two words, the smaller code among equals.
-    #[tactic(auto, unfolding(crate::specs::Search::better_of))]
-    fn better(&self, a: u64, b: u64) -> u64
-        ensures { Better L.Levels.model (P.Preference.good self.now.preference.now) self.now.factors self.now.base.words.now a b result }
+    // The same of words alone.
+    #[inline]
+    pub(crate) fn precedes_word(&self, a: u64, b: u64) -> bool
+        requires first { Word L.model self.now.factors a }
+        requires second { Word L.model self.now.factors b }
+        ensures yes { OnTrue result (NoLater (order_of L.model P.good self.now) a b) }
+        ensures no { OnFalse result (NoLater (order_of L.model P.good self.now) b a) }
     {
         let verdict = if self.able {
             self.preference.prefer(&self.base, a, b)
         } else {
             Verdict::Equal
         };
-        match verdict {
-            Verdict::First => a,
-            Verdict::Second => b,
-            Verdict::Equal => a.min(b),
+        before_second(verdict, a, b)
+    }
+
+    // How many of all rows make words that are alike.
+    pub(crate) fn shared(&self) -> usize
+        ensures within { result ≤ length (basis_rows self.now.known) }
+        ensures front { take result (basis_rows self.now.whole) ≡ shared_rows self.now }
+    {
+        if self.alike { self.known.len() } else { 0 }
+    }
+
+    // The smallest code of a word and those that are alike.
+    #[inline]
+    pub(crate) fn smallest(&self, word: u64) -> u64
+        requires { Word L.model self.now.factors word }
+        ensures { LeastAlias L.model self.now.factors (shared_rows self.now) word result }
+    {
+        if self.alike {
+            reduce_by::<L>(self.factors, self.known.rows(), word)
+        } else {
+            word
         }
+    }
+}
+
+// Whether the first of two words stands before the second, by the verdict on them: the smaller code among equals.
+#[inline]
+fn before_second(verdict: Verdict, a: u64, b: u64) -> bool
+    ensures { result ≡ first_stands verdict a b }
+{
+    match verdict {
+        Verdict::First => true,
+        Verdict::Second => false,
+        Verdict::Equal => a < b,
     }
 }

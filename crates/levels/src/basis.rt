@@ -47,11 +47,7 @@ impl Basis {
     pub fn reduce<L: Levels>(&self, n: u8, word: u64) -> u64
         ensures { Echelon L.Levels.model n (basis_rows self.now) → Word L.Levels.model n word → LeastAlias L.Levels.model n (basis_rows self.now) word result }
     {
-        let mut left = word;
-        for row in self.rows() {
-            left = least::<L>(n, *row, left);
-        }
-        left
+        reduce_by::<L>(n, self.rows(), word)
     }
 
     // One word more: nothing where it is illegal or generated already.
@@ -75,6 +71,17 @@ impl Basis {
             self.admit::<L>(n, *word);
         }
     }
+}
+
+// What is left of a word by multiples of rows.
+pub fn reduce_by<L: Levels>(n: u8, rows: &[u64], word: u64) -> u64
+    ensures { Echelon L.Levels.model n rows.now → Word L.Levels.model n word → LeastAlias L.Levels.model n rows.now word result }
+{
+    let mut left = word;
+    for row in rows {
+        left = least::<L>(n, *row, left);
+    }
+    left
 }
 
 // The smallest code among a word plus the multiples of a row.

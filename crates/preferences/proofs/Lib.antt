@@ -1,2 +1,5 @@
 pub mod Points
+pub mod Tables
+pub mod Tallies
 pub mod Widths
+pub mod Aliases

@@ -2,9 +2,9 @@
 use Rattle.std.specs.Prelude.{◌≡◌, ℕ, Bool, true, cond, not, ◌&&◌, ◌⊎◌, List, length, nat_le}
 use Rattle.std.specs.List.{list_all}
 use Rattle.levels.specs.Arithmetic.{Arithmetic}
-use Rattle.levels.specs.Words.{legal}
+use Rattle.levels.specs.Words.{legal, word_sum}
 use Rattle.levels.specs.Space.{Word}
-use Rattle.levels.specs.Generated.{SameWords}
+use Rattle.levels.specs.Generated.{Generates, SameWords}
 
 -- n, the base list, a and b: a is at least as good as b
 abbrev pub Relation : Type 0
@@ -32,3 +32,9 @@ judged A good n base a b = cond (fair A n base) (good n base a b) true
 -- a is better than b: at least as good, and b is not
 abbrev pub better : Relation → Relation
 better good n base a b = good n base a b && not (good n base b a)
+
+-- Words of one alias set over the base list are equally good, on base lists that a preference judges by.
+abbrev pub EqualAliases : Arithmetic → Relation → Type 0
+EqualAliases A good =
+    (n : ℕ) (base : List ℕ) → fair A n base ≡ true → (a g : ℕ) → Word A n a → Generates A n base g →
+    (good n base a (word_sum A n a g) ≡ true) × (good n base (word_sum A n a g) a ≡ true)

@@ -1,43 +1,111 @@
 // Least aberration: at the smallest length where the alias sets differ in their number of words, fewer is better.
-ghost use Rattle.std.specs.Prelude.{◌≡◌, nat_le};
+ghost use Rattle.std.specs.Prelude.{◌≡◌, true, nat_le};
 ghost use Rattle.levels.specs.Space.{Word};
 ghost use Rattle.levels.specs.Words.{word_length};
-ghost use Rattle.preferences.specs.Built.{least_aberration, no_more, all_tallies};
+ghost use Rattle.preferences.specs.Relation.{fair};
+ghost use Rattle.preferences.specs.Built.{least_aberration, no_more};
+ghost use Rattle.preferences.specs.Candidates.{IsReady};
 ghost use Rattle.preferences.specs.Verdicts.{verdict_of};
 ghost use Rattle.preferences.specs.Counts.{least_aberration_laws};
 
+use crate::candidate::Candidate;
 use crate::preference::{Preference, Verdict, smaller};
+use levels::span::Tally;
 use levels::{Levels, Span};
 
 #[derive(Clone, Copy)]
 pub struct LeastAberration;
 
 impl<L: Levels> Preference<L> for LeastAberration {
-    ghost good = { λ self. least_aberration L.Levels.model };
+    ghost good = { λ self. least_aberration L.model };
 
     // the order of counts
-    ghost lawful = { λ self. least_aberration_laws L.Levels.model L.Levels.lawful };
+    ghost lawful = { λ self. least_aberration_laws L.model L.lawful };
 
+    fn equates_aliases(&self) -> bool {
+        true
+    }
+
+    #[inline(always)]
     fn prefer(&self, base: &Span<L>, a: u64, b: u64) -> Verdict {
         if base.words().is_empty() {
             longer::<L>(a, b)
         } else {
-            fewer(base, a, b)
+            fewer_of_words(base, a, b)
+        }
+    }
+
+    fn ready(&self, base: &Span<L>, word: u64) -> Candidate {
+        let tally = if base.words().is_empty() {
+            None
+        } else {
+            Some(base.tally(word))
+        };
+        Candidate { word, tally }
+    }
+
+    #[inline(always)]
+    fn prefer_ready(&self, base: &Span<L>, a: &Candidate, b: &Candidate) -> Verdict {
+        if base.words().is_empty() {
+            longer::<L>(a.word, b.word)
+        } else {
+            fewer_ready(base, a, b)
         }
     }
 }
 
 // Of two words, each its own only alias: the first length of which there is one, and of the other none, is the shorter one's.
+#[inline]
 fn longer<L: Levels>(a: u64, b: u64) -> Verdict
-    ensures { result ≡ verdict_of (nat_le (word_length L.Levels.model b) (word_length L.Levels.model a)) (nat_le (word_length L.Levels.model a) (word_length L.Levels.model b)) }
+    ensures { let first = word_length L.model a in
+        let second = word_length L.model b in
+        result ≡ verdict_of (nat_le second first) (nat_le first second) }
 {
     smaller(u64::from(L::length(b)), u64::from(L::length(a)))
 }
 
 // Of two words, the one whose aliases have fewer of the first length in which they differ.
-// Legal words are premises, as in `prefer`.
-fn fewer<L: Levels>(base: &Span<L>, a: u64, b: u64) -> Verdict
-    ensures { Word L.Levels.model base.now.factors a → Word L.Levels.model base.now.factors b → result ≡ verdict_of (no_more (all_tallies L.Levels.model base.now.factors base.now.words.now a) (all_tallies L.Levels.model base.now.factors base.now.words.now b)) (no_more (all_tallies L.Levels.model base.now.factors base.now.words.now b) (all_tallies L.Levels.model base.now.factors base.now.words.now a)) }
+#[inline(never)]
+fn fewer_of_words<L: Levels>(base: &Span<L>, a: u64, b: u64) -> Verdict
+    ensures {
+        let n = base.now.factors in
+        let words = base.now.words.now in
+        let good = least_aberration L.model in
+        fair L.model n words ≡ true →
+        Word L.model n a →
+        Word L.model n b →
+        result ≡ verdict_of (good n words a b) (good n words b a)
+    }
 {
-    Verdict::from(base.tally(a).cmp(&base.tally(b)))
+    fewer(&base.tally(a), &base.tally(b))
+}
+
+// The same of two candidates, whose tallies are counted where they are not known.
+#[inline(never)]
+fn fewer_ready<L: Levels>(base: &Span<L>, a: &Candidate, b: &Candidate) -> Verdict
+    ensures { let n = base.now.factors in
+        let words = base.now.words.now in
+        let good = least_aberration L.model in
+        fair L.model n words ≡ true →
+        Word L.model n a.now.word →
+        Word L.model n b.now.word →
+        IsReady L.model n words a.now →
+        IsReady L.model n words b.now →
+        result ≡ verdict_of
+        (good n words a.now.word b.now.word)
+        (good n words b.now.word a.now.word) }
+{
+    match (&a.tally, &b.tally) {
+        (Some(first), Some(second)) => fewer(first, second),
+        (Some(first), None) => fewer(first, &base.tally(b.word)),
+        (None, Some(second)) => fewer(&base.tally(a.word), second),
+        (None, None) => fewer(&base.tally(a.word), &base.tally(b.word)),
+    }
+}
+
+// Of two tallies, the one that is smaller where they first differ.
+fn fewer(a: &Tally, b: &Tally) -> Verdict
+    ensures { result ≡ verdict_of (no_more a.now b.now) (no_more b.now a.now) }
+{
+    Verdict::from(a.cmp(b))
 }

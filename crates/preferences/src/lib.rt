@@ -4,6 +4,7 @@
 #![tactic(auto)]
 
 pub mod aberration;
+pub mod candidate;
 pub mod cheapest;
 pub mod preference;
 pub mod ranked;
@@ -11,6 +12,7 @@ pub mod reversed;
 pub mod shortest;
 
 pub use aberration::LeastAberration;
+pub use candidate::Candidate;
 pub use cheapest::Cheapest;
 pub use preference::{Preference, Scored, Verdict, fair};
 pub use ranked::FirstThenSecond;

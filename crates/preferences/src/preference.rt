@@ -2,13 +2,16 @@
 ghost use Rattle.std.specs.Prelude.{◌≡◌, ℕ, true, false, ◌&&◌, nat_le};
 ghost use Rattle.levels.specs.Words.{legal};
 ghost use Rattle.levels.specs.Space.{Word};
-ghost use Rattle.preferences.specs.Relation.{Relation, PreferenceLaws, all_legal, fair};
+ghost use Rattle.preferences.specs.Relation.{Relation, PreferenceLaws, EqualAliases, all_legal, fair};
+ghost use Rattle.std.specs.Bool.{OnTrue};
+ghost use Rattle.preferences.specs.Candidates.{IsReady};
 ghost use Rattle.preferences.specs.Verdicts.{of_order, verdict, verdict_of, turned, Scores};
 
+use crate::candidate::Candidate;
 use levels::{Levels, Span};
 use std::cmp::Ordering;
 
-// Which of two words is better. An own enum: its names are the public ones of the field, and an Ordering converts to it.
+/// Which of two words is better. An own enum: its names are the public ones of the field, and an Ordering converts to it.
 #[derive(Clone, Copy, PartialEq, Eq, Debug)]
 pub enum Verdict {
     First,
@@ -30,7 +33,7 @@ impl From<Ordering> for Verdict {
 }
 
 impl Verdict {
-    // The verdict on the two words in the other order. By hand: a reversed Ordering would need two conversions.
+    /// The verdict on the two words in the other order. By hand: a reversed Ordering would need two conversions.
     pub fn turned(self) -> Verdict
         ensures { result ≡ turned self }
     {
@@ -46,10 +49,10 @@ pub trait Preference<L: Levels> {
     // "at least as good", for n factors and a base list of words
     ghost good: { Self → Relation };
 
-    // Which of two codes is better for n factors and a base list of words. Equal where a code or a word of the
-    // base list is illegal, or the base list is longer than the limit.
+    /// Which of two codes is better for n factors and a base list of words. Equal where a code or a word of the
+    /// base list is illegal, or the base list is longer than the limit.
     fn compare(&self, n: u8, base: &[u64], a: u64, b: u64) -> Verdict
-        ensures { result ≡ verdict L.Levels.model (good self.now) n base.now a b }
+        ensures { result ≡ verdict L.model (good self.now) n base.now a b }
     {
         if !judged::<L>(n, base, a, b) {
             return Verdict::Equal;
@@ -57,59 +60,87 @@ pub trait Preference<L: Levels> {
         self.prefer(&Span::new(n, base), a, b)
     }
 
-    // The same over a base list that is ready for many questions, where every code is known to be legal and the list to be within
-    // the limit, so that nothing has to be tested. Of other codes and lists it may say anything.
-    // Legal words are premises: a type that carried this would be of one number of factors, and each caller would make two of them.
+    /// The same over a base list that is ready for many questions, where every code is known to be legal and the list to be within
+    /// the limit, so that nothing has to be tested. Of other codes and lists it may say anything.
+    /// Legal words are premises: a type that carried this would be of one number of factors, and each caller would make two of them.
     fn prefer(&self, base: &Span<L>, a: u64, b: u64) -> Verdict
-        ensures { fair L.Levels.model base.now.factors base.now.words.now ≡ true → Word L.Levels.model base.now.factors a → Word L.Levels.model base.now.factors b → result ≡ verdict_of (good self.now base.now.factors base.now.words.now a b) (good self.now base.now.factors base.now.words.now b a) };
+        ensures { let n = base.now.factors in
+            let words = base.now.words.now in
+            fair L.model n words ≡ true →
+            Word L.model n a →
+            Word L.model n b →
+            result ≡ verdict_of (good self.now n words a b) (good self.now n words b a) };
 
-    ghost lawful: { (self : Self) → PreferenceLaws L.Levels.model (good self) };
+    /// A word that many questions are asked of, with whatever these would else work out again and again.
+    fn ready(&self, base: &Span<L>, word: u64) -> Candidate
+        ensures word { result.word ≡ word }
+        ensures ready { IsReady L.model base.now.factors base.now.words.now result }
+    {
+        Candidate::new(word)
+    }
+
+    /// What `prefer` says of two candidates.
+    #[inline]
+    fn prefer_ready(&self, base: &Span<L>, a: &Candidate, b: &Candidate) -> Verdict
+        ensures { let n = base.now.factors in
+            let words = base.now.words.now in
+            fair L.model n words ≡ true →
+            Word L.model n a.now.word →
+            Word L.model n b.now.word →
+            IsReady L.model n words a.now →
+            IsReady L.model n words b.now →
+            result ≡ verdict_of
+            (good self.now n words a.now.word b.now.word)
+            (good self.now n words b.now.word a.now.word) }
+    {
+        self.prefer(base, a.word, b.word)
+    }
+
+    /// Whether words of one alias set over the base list are known to be equal, so that a search may judge one word of each set.
+    fn equates_aliases(&self) -> bool
+        ensures { OnTrue result (EqualAliases L.model (good self.now)) }
+    {
+        false
+    }
+
+    ghost lawful: { (self : Self) → PreferenceLaws L.model (good self) };
 }
 
-// A preference that also scores words: the smaller score is better.
+/// A preference that also scores words: the smaller score is better.
 pub trait Scored<L: Levels>: Preference<L> {
     ghost points: { Self → ℕ → ℕ → ℕ };
 
-    // The score of a word of n factors, from 0 to 2,097,120; 0 for an illegal code.
+    /// The score of a word of n factors, from 0 to 2,097,120; 0 for an illegal code.
     fn score(&self, n: u8, word: u64) -> u32
         ensures value { result ≡ points self.now n word }
-        ensures ranks { Scores L.Levels.model (Self.Preference.good self.now) (points self.now) };
+        ensures ranks { Scores L.model (Self.Preference.good self.now) (points self.now) };
 }
 
-// Whether a preference has anything to judge: every code is legal and the base list is within the limit.
+/// Whether a preference has anything to judge: every code is legal and the base list is within the limit.
 pub fn judged<L: Levels>(n: u8, base: &[u64], a: u64, b: u64) -> bool
-    ensures { result ≡ (fair L.Levels.model n base.now && (legal L.Levels.model n a && legal L.Levels.model n b)) }
+    ensures { result ≡ (fair L.model n base.now && (legal L.model n a && legal L.model n b)) }
 {
     fair::<L>(n, base) && L::legal(n, a) && L::legal(n, b)
 }
 
-// Whether preferences judge by a base list: every word is legal, and there are no more than the limit.
+/// Whether preferences judge by a base list: every word is legal, and there are no more than the limit.
 pub fn fair<L: Levels>(n: u8, base: &[u64]) -> bool
-    ensures { result ≡ fair L.Levels.model n base.now }
+    ensures { result ≡ fair L.model n base.now }
 {
     base.len() <= L::LIMIT && all_legal::<L>(n, base)
 }
 
-// Whether every word of a list is legal.
+/// Whether every word of a list is legal.
 pub fn all_legal<L: Levels>(n: u8, words: &[u64]) -> bool
-    ensures { result ≡ all_legal L.Levels.model n words.now }
+    ensures { result ≡ all_legal L.model n words.now }
 {
     words.iter().all(|word| L::legal(n, *word))
 }
 
-// The smaller of two numbers is better.
+/// The smaller of two numbers is better.
+#[inline]
 pub fn smaller(a: u64, b: u64) -> Verdict
     ensures { result ≡ verdict_of (nat_le a b) (nat_le b a) }
 {
     Verdict::from(a.cmp(&b))
-}
-
-// What a legal word counts; 0 for an illegal code.
-#[inline]
-pub(crate) fn count_if_legal<L: Levels, F: FnOnce(u64) -> u32>(n: u8, word: u64, count: F) -> u32
-    requires { F.IsAlwaysCallable count }
-    ensures legal { legal L.Levels.model n word ≡ true → F.post count word result }
-    ensures illegal { legal L.Levels.model n word ≡ false → result ≡ 0 }
-{
-    if L::legal(n, word) { count(word) } else { 0 }
 }

@@ -2,6 +2,7 @@
 ghost use Rattle.preferences.specs.Built.{first_then_second};
 ghost use Rattle.preferences.specs.Laws.{first_then_second_laws};
 
+use crate::candidate::Candidate;
 use crate::preference::{Preference, Verdict};
 use levels::{Levels, Span};
 
@@ -12,14 +13,35 @@ pub struct FirstThenSecond<P, Q> {
 }
 
 impl<L: Levels, P: Preference<L>, Q: Preference<L>> Preference<L> for FirstThenSecond<P, Q> {
-    ghost good = { λ self. first_then_second (P.Preference.good self.first) (Q.Preference.good self.second) };
+    ghost good = { λ self. first_then_second (P.good self.first) (Q.good self.second) };
 
     // the laws of the two preferences
-    ghost lawful = { λ self. first_then_second_laws L.Levels.model (P.Preference.good self.first) (Q.Preference.good self.second) (P.Preference.lawful self.first) (Q.Preference.lawful self.second) };
+    ghost lawful = { λ self.
+        let one = P.good self.first in
+        let other = Q.good self.second in
+        first_then_second_laws L.model one other (P.lawful self.first) (Q.lawful self.second) };
 
+    fn equates_aliases(&self) -> bool {
+        self.first.equates_aliases() && self.second.equates_aliases()
+    }
+
+    #[inline]
     fn prefer(&self, base: &Span<L>, a: u64, b: u64) -> Verdict {
         match self.first.prefer(base, a, b) {
             Verdict::Equal => self.second.prefer(base, a, b),
+            decided => decided,
+        }
+    }
+
+    // What the first works out is asked of every word, what the second does of equal words alone.
+    fn ready(&self, base: &Span<L>, word: u64) -> Candidate {
+        self.first.ready(base, word)
+    }
+
+    #[inline]
+    fn prefer_ready(&self, base: &Span<L>, a: &Candidate, b: &Candidate) -> Verdict {
+        match self.first.prefer_ready(base, a, b) {
+            Verdict::Equal => self.second.prefer_ready(base, a, b),
             decided => decided,
         }
     }

@@ -8,7 +8,43 @@ use std::time::Instant;
 
 const SEED: u64 = 20_260_101;
 
-const ITEMS: [&str; 8] = ["read", "pattern", "choose-defining", "choose-block", "clear", "aliases", "runs", "page"];
+const ITEMS: [&str; 17] = [
+    "read",
+    "lengths",
+    "pattern",
+    "defining-shortest",
+    "defining-longest",
+    "defining-cheapest",
+    "defining-aberration",
+    "defining-both",
+    "block-shortest",
+    "block-longest",
+    "block-cheapest",
+    "block-aberration",
+    "block-both",
+    "clear",
+    "aliases",
+    "runs",
+    "page",
+];
+
+/// A choice by its name: whether it is on the block side, and the number of the preference.
+fn choice(item: &str) -> Option<(u8, u8)> {
+    let (side, preference) = item.split_once('-')?;
+    let side = match side {
+        "defining" => 0,
+        "block" => 1,
+        _ => return None,
+    };
+    let number = ["shortest", "cheapest", "aberration", "longest", "both"].iter().position(|&name| name == preference)?;
+    Some((side, number as u8))
+}
+
+/// Costs of all sizes.
+fn costs() -> [u16; 32] {
+    let mut draw = Draw::new(SEED + 1);
+    std::array::from_fn(|_| draw.below(65536) as u16)
+}
 
 /// Runs are asked for in lists of so many, spread over the range.
 const RUNS_AT_ONCE: usize = 1000;
@@ -77,22 +113,18 @@ type Given = Vec<u64>;
 
 fn ours(case: &Case, item: &str) -> Option<Given> {
     let (levels, file) = (case.levels, &case.file[..]);
-    let costs = Costs { table: [0; 32] };
+    let costs = Costs { table: costs() };
     let mut words = [0u64; 16];
+    if let Some((side, preference)) = choice(item) {
+        let len = library::choose(levels, file, side, preference, &costs, &mut words).unwrap() as usize;
+        return Some(words[..len].to_vec());
+    }
     Some(match item {
         "read" => vec![library::factors(levels, file).unwrap()],
         "pattern" => {
             let mut counts = [0u32; 32];
             library::pattern(levels, file, &mut counts).unwrap();
             counts.iter().map(|&count| count.into()).collect()
-        }
-        "choose-defining" => {
-            let len = library::choose(levels, file, 0, 0, &costs, &mut words).unwrap() as usize;
-            words[..len].to_vec()
-        }
-        "choose-block" => {
-            let len = library::choose(levels, file, 1, 2, &costs, &mut words).unwrap() as usize;
-            words[..len].to_vec()
         }
         "clear" if levels == 2 => {
             let mut bytes = [0u8; 496];
@@ -130,12 +162,22 @@ fn theirs(case: &Case, item: &str) -> Option<Given> {
 
 fn theirs_of<L: fast::Levels>(case: &Case, item: &str) -> Option<Given> {
     let plan = fast::Plan::read::<L>(&case.file).unwrap();
-    let codes = |(words, len): ([u64; 16], usize)| words[..len].iter().map(|&word| L::code(word)).collect();
+    if let Some((side, preference)) = choice(item) {
+        let block = side == 1;
+        let (words, len) = match preference {
+            0 => plan.shortest::<L>(block),
+            1 => plan.cheapest::<L>(block, &costs()),
+            2 => plan.least_aberration::<L>(block),
+            3 => plan.longest::<L>(block),
+            _ => plan.cheapest_then_least_aberration::<L>(block, &costs()),
+        };
+        return Some(words[..len].iter().map(|&word| L::code(word)).collect());
+    }
     Some(match item {
         "read" => vec![plan.n.into()],
+        // of this side alone: what one sum and one population count a word cost
+        "lengths" => vec![plan.all_lengths::<L>()],
         "pattern" => plan.pattern::<L>()[1..].iter().map(|&count| count.into()).collect(),
-        "choose-defining" => codes(plan.shortest::<L>()),
-        "choose-block" => codes(plan.least_aberration::<L>()),
         "clear" if L::S == 2 => {
             let mut bytes = [0u8; 496];
             let ones = plan.clear(&mut bytes) as u64;
@@ -206,7 +248,7 @@ fn line(case: &Case, item: &str, repeat: Option<usize>) {
     }
     let count = times.0.len();
     let (ours, fast) = (median(times.0), median(times.1));
-    println!("{:16} {:8} {:>11} {:>11} {:>7.2}   {count}", item, case.name, shown(ours), shown(fast), ours / fast);
+    println!("{:20} {:8} {:>11} {:>11} {:>7.2}   {count}", item, case.name, shown(ours), shown(fast), ours / fast);
 }
 
 fn main() {
@@ -215,7 +257,9 @@ fn main() {
     let repeat = option("--repeat").map(|text| text.parse().expect("a number"));
     let plans: Vec<String> = match option("--plan") {
         Some(plan) => vec![plan],
-        None => ["16+0", "14+2", "12+4", "8+8", "0+16", "3:10+0", "3:8+2", "3:5+5", "3:0+10", "2+2", "3+3", "4+4", "5+5", "6+6", "7+7"].map(String::from).to_vec(),
+        None => [
+            "16+0", "15+1", "14+2", "12+4", "8+8", "4+12", "0+16", "3:10+0", "3:8+2", "3:5+5", "3:2+8", "3:0+10", "2+2", "3+3", "4+4", "5+5", "6+6", "7+7",
+        ].map(String::from).to_vec(),
     };
     let items: Vec<String> = match option("--only") {
         Some(item) => vec![item],
@@ -236,7 +280,7 @@ fn main() {
         return;
     }
     println!("seed {SEED}, 32 factors; times are medians; each call reads the plan file");
-    println!("{:16} {:8} {:>11} {:>11} {:>7}   repeats", "item", "plan", "library", "plain Rust", "ratio");
+    println!("{:20} {:8} {:>11} {:>11} {:>7}   repeats", "item", "plan", "library", "plain Rust", "ratio");
     for plan in &plans {
         let case = case(plan);
         for item in &items {

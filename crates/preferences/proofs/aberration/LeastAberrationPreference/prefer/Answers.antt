@@ -1,6 +1,6 @@
-use Rattle.std.proofs.Common.{◌≡◌, length, ◌∙◌, rules}
+use Rattle.std.proofs.Common.{◌≡◌, length, ◌∙◌, arith, rules}
 use Rattle.std.proofs.lemmas.List.{nil_from_length}
-use Rattle.preferences.specs.Counts.{tallies_of_words, lengths_of_words}
+use Rattle.preferences.specs.Counts.{lengths_of_words}
 use Rattle.preferences.proofs.aberration.LeastAberrationPreference.prefer.Goals as goal
 
 -- without base words the lengths decide
@@ -9,9 +9,3 @@ returns-then-is_empty g c fair first second =
     let none : length c.args.base.now.words.now ≡ 0 = search rules in
     c.longer.ensures
     ∙ lengths_of_words g.L.Levels.model g.met.L.Levels.lawful c.args.base.now.factors c.args.base.now.words.now c.args.a c.args.b (nil_from_length c.args.base.now.words.now none) first second
-
--- tallies are in the order of least aberration
-pub returns-else-is_empty : goal.returns-else-is_empty
-returns-else-is_empty g c fair first second =
-    c.fewer.ensures first second
-    ∙ tallies_of_words g.L.Levels.model g.met.L.Levels.lawful c.args.base.now.factors c.args.base.now.words.now c.args.a c.args.b fair first second

@@ -1,0 +1,42 @@
+use Rattle.std.proofs.lemmas.List.{append_assoc}
+use Rattle.std.proofs.Common.{ℕ, List, ap, ◌≡◌, ◌++◌, length, drop, sym, ◌∙◌, subst}
+use Rattle.levels.specs.Space.{AllWords}
+use Rattle.levels.specs.Generated.{combinations}
+use Rattle.levels.proofs.Leaves.{combinations_words}
+use Rattle.levels.proofs.Reduced.{space_at}
+use Rattle.choice.specs.Search.{Coset, Spread}
+use Rattle.choice.specs.Judged.{order_of, OfferedTo, shared_rows, words_of}
+use Rattle.choice.proofs.Greedy.{judged_order}
+use Rattle.choice.proofs.Sums.{spread_coset, coset_spread}
+use Rattle.choice.proofs.Sieve.{offered_same}
+use Rattle.choice.proofs.judge.Judge.offer_coset.Goals as goal
+
+-- the leaves are words
+pub offer_over_leaves-requires-clause-words : goal.offer_over_leaves-requires-clause-words
+offer_over_leaves-requires-clause-words g c =
+    let A = g.L.Levels.model in
+    let L = g.met.L.Levels.lawful in
+    let n = c.args.self.now.factors in
+    subst (AllWords A n) (sym (c.as_slice.ensures ∙ c.list_sums.ensures.sums)) (combinations_words A L n (drop (length c.list_sums.result.0.now) c.args.rows.now) c.args.start c.requires.start)
+
+-- the sums with all leaves are the sums with multiples of the rows
+pub returns : goal.returns
+returns g c =
+    let A = g.L.Levels.model in
+    let L = g.met.L.Levels.lawful in
+    let s = c.args.self.now in
+    let n = s.factors in
+    let start = c.args.start in
+    let before = c.list_sums.result.0.now in
+    let behind = drop (length before) c.args.rows.now in
+    let leaves = c.as_slice.result.now in
+    let all : leaves ≡ combinations A n behind = c.as_slice.ensures ∙ c.list_sums.ensures.sums in
+    let V = space_at A L n start c.requires.start in
+    let good = g.P.Preference.good s.preference.now in
+    let base = s.base.words.now in
+    let at_least = order_of A g.P.Preference.good s in
+    let shared = shared_rows s in
+    let rows : before ++ (behind ++ shared) ≡ c.args.rows.now ++ shared = sym (append_assoc before behind shared) ∙ ap (λ (us : List ℕ). us ++ shared) c.list_sums.ensures.words in
+    let o = offered_same A L n at_least (judged_order A good (g.met.P.Preference.lawful s.preference.now) n base) s.room base (Spread A n shared before leaves start) (Coset A n (before ++ (behind ++ shared)) start) (words_of c.args.progress.now) (words_of c.offer_over_leaves.new.progress)
+    (spread_coset A L n V before behind shared leaves start c.requires.start all) (coset_spread A L n V before behind shared leaves start c.requires.start all) c.offer_over_leaves.ensures.0 in
+    subst (λ (us : List ℕ). OfferedTo A g.P.Preference.good s (Coset A n us start) (words_of c.args.progress.now) c.offer_over_leaves.new.progress) rows (o, c.offer_over_leaves.ensures.1)

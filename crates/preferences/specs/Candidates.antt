@@ -1,0 +1,13 @@
+-- Words that are ready for many questions.
+use Rattle.std.specs.Prelude.{◌≡◌, ℕ, ◌<◌, List, length, slice_index, IfSome}
+use Rattle.levels.specs.Arithmetic.{Arithmetic}
+use Rattle.levels.specs.Alias.{tallied}
+use Rattle.preferences.specs.declared.candidate.Candidate.{Candidate}
+
+-- the counts are the tally of a word over a base list
+abbrev pub IsTally : Arithmetic → ℕ → List ℕ → ℕ → List ℕ → Type 0
+IsTally A n base word counts = (length counts ≡ 33) × ((i : ℕ) → i < 33 → slice_index counts i ≡ tallied A n base word i)
+
+-- what a candidate has beside its word is that word's own
+abbrev pub IsReady : Arithmetic → ℕ → List ℕ → Candidate → Type 0
+IsReady A n base candidate = IfSome candidate.tally (IsTally A n base candidate.word)
