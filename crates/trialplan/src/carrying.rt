@@ -112,10 +112,19 @@ mod tests {
 
     #[test]
     fn fronts_of_inputs(rt: HostRuntime) -> Result<(), Fail> {
-        assert_eq!(rt; deciding_bytes(&mut b"".as_slice())?.as_slice(), b"".as_slice());
-        assert_eq!(rt; deciding_bytes(&mut b"DWF".as_slice())?.as_slice(), b"DWF".as_slice());
+        assert_eq!(rt;
+            deciding_bytes(&mut b"".as_slice())?.as_slice(),
+            b"".as_slice()
+        );
+        assert_eq!(rt;
+            deciding_bytes(&mut b"DWF".as_slice())?.as_slice(),
+            b"DWF".as_slice()
+        );
         let mut parts = b"DW".as_slice().chain(b"F\x01".as_slice());
-        assert_eq!(rt; deciding_bytes(&mut parts)?.as_slice(), b"DWF\x01".as_slice());
+        assert_eq!(rt;
+            deciding_bytes(&mut parts)?.as_slice(),
+            b"DWF\x01".as_slice()
+        );
         assert_eq!(rt; deciding_bytes(&mut [7u8; 300].as_slice())?.len(), ENOUGH);
         Ok(())
     }

@@ -7,7 +7,8 @@ ghost use Rattle.trialplan.specs.RankingLaws.{one_laws, ranking_laws, rule_laws,
 
 use levels::{Levels, Span};
 use preferences::{
-    Cheapest, FirstThenSecond, LeastAberration, Preference, Reversed, Scored, Shortest, Verdict,
+    Candidate, Cheapest, FirstThenSecond, LeastAberration, Preference, Reversed, Scored, Shortest,
+    Verdict,
 };
 
 /// A preference that also scores words.
@@ -59,6 +60,27 @@ impl<L: Levels> Preference<L> for Rule {
             Rule::LeastAberration => LeastAberration.prefer(base, a, b),
         }
     }
+
+    fn equates_aliases(&self) -> bool {
+        match self {
+            Rule::Score(_) => false,
+            Rule::LeastAberration => Preference::<L>::equates_aliases(&LeastAberration),
+        }
+    }
+
+    fn ready(&self, base: &Span<L>, word: u64) -> Candidate {
+        match self {
+            Rule::Score(score) => score.ready(base, word),
+            Rule::LeastAberration => LeastAberration.ready(base, word),
+        }
+    }
+
+    fn prefer_ready(&self, base: &Span<L>, a: &Candidate, b: &Candidate) -> Verdict {
+        match self {
+            Rule::Score(score) => score.prefer_ready(base, a, b),
+            Rule::LeastAberration => LeastAberration.prefer_ready(base, a, b),
+        }
+    }
 }
 
 /// A rule, as it is or turned round.
@@ -91,6 +113,27 @@ impl<L: Levels> Preference<L> for One {
             One::Reversed(reversed) => reversed.prefer(base, a, b),
         }
     }
+
+    fn equates_aliases(&self) -> bool {
+        match self {
+            One::Plain(rule) => Preference::<L>::equates_aliases(rule),
+            One::Reversed(reversed) => Preference::<L>::equates_aliases(reversed),
+        }
+    }
+
+    fn ready(&self, base: &Span<L>, word: u64) -> Candidate {
+        match self {
+            One::Plain(rule) => rule.ready(base, word),
+            One::Reversed(reversed) => reversed.ready(base, word),
+        }
+    }
+
+    fn prefer_ready(&self, base: &Span<L>, a: &Candidate, b: &Candidate) -> Verdict {
+        match self {
+            One::Plain(rule) => rule.prefer_ready(base, a, b),
+            One::Reversed(reversed) => reversed.prefer_ready(base, a, b),
+        }
+    }
 }
 
 /// One preference, or two of which the second decides where the first finds the words equal.
@@ -109,6 +152,27 @@ impl<L: Levels> Preference<L> for Ranking {
         match self {
             Ranking::One(one) => one.prefer(base, a, b),
             Ranking::Two(two) => two.prefer(base, a, b),
+        }
+    }
+
+    fn equates_aliases(&self) -> bool {
+        match self {
+            Ranking::One(one) => Preference::<L>::equates_aliases(one),
+            Ranking::Two(two) => Preference::<L>::equates_aliases(two),
+        }
+    }
+
+    fn ready(&self, base: &Span<L>, word: u64) -> Candidate {
+        match self {
+            Ranking::One(one) => one.ready(base, word),
+            Ranking::Two(two) => two.ready(base, word),
+        }
+    }
+
+    fn prefer_ready(&self, base: &Span<L>, a: &Candidate, b: &Candidate) -> Verdict {
+        match self {
+            Ranking::One(one) => one.prefer_ready(base, a, b),
+            Ranking::Two(two) => two.prefer_ready(base, a, b),
         }
     }
 }
