@@ -1,16 +1,15 @@
 -- The words that are offered, one set after the other.
-use Rattle.std.proofs.Common.{◌≡◌, ℕ, zero, suc, ◌+◌, ◌<◌, ◌≤◌, Bool, List, [], ◌∷◌, length, get_or, take, drop, ◌-◌, min, true, false, ◌⊎◌, ◌++◌, sym, refl, ap, ◌∙◌, subst, inl, inr, arith}
-use Rattle.std.proofs.lemmas.List.{take_rest, take-append-drop, get_or-drop, length-drop, append-nil}
+use Rattle.std.proofs.Common.{◌≡◌, ℕ, zero, suc, ◌+◌, ◌<◌, ◌≤◌, Bool, List, [], ◌∷◌, length, get_or, take, drop, ◌-◌, min, true, false, ◌++◌, sym, refl, ap, ◌∙◌, subst, inl, inr, arith}
+use Rattle.std.proofs.lemmas.List.{take_rest, take-append-drop, length-drop, append-nil}
 use Rattle.levels.specs.Arithmetic.{Arithmetic, Lawful}
 use Rattle.levels.specs.Words.{word_sum, word_multiple, code_sum}
 use Rattle.levels.specs.Space.{Word, AllWords}
 use Rattle.levels.proofs.Leaves.{multiple_legal, sum_legal}
 use Rattle.levels.proofs.Lengths.{sum_code}
-use Rattle.std.proofs.lemmas.Bool.{both_ways}
 use Rattle.std.proofs.lemmas.List.{take_all}
 use Rattle.levels.specs.Generated.{Generates, SameWords, generated}
 use Rattle.levels.specs.Basis.{Echelon}
-use Rattle.levels.proofs.Any.{in_range_or_none, none_trans, any_place}
+use Rattle.levels.proofs.Any.{in_range_or_none, none_trans}
 use Rattle.levels.proofs.Space.{vector_space}
 use Rattle.levels.proofs.Reduced.{space_at, alias_word, differ_back}
 use Rattle.levels.proofs.Linear.{gen_nil, gen_flip, add_zero_word}
@@ -27,13 +26,13 @@ use Rattle.choice.specs.Search.{NoLater, Covered}
 use Rattle.choice.proofs.Sieve.{no_later_trans}
 use Rattle.choice.proofs.Sums.{leaf_sum, coset_from, coset_to, coset_more}
 use Rattle.choice.specs.Choice.{generators, BestGenerators, DependsOnlyOnWords}
-use Rattle.choice.specs.Search.{Below, OneOf, Coset, Leaf, Spread, LedBy, Led, LedAt, Kept, Offered}
+use Rattle.choice.specs.Search.{Below, Coset, Leaf, Spread, LedBy, Led, LedAt, Kept, Offered}
 use Rattle.levels.proofs.Sets.{holds_in}
 use Rattle.choice.proofs.Rows.{same_from_generated}
 use Rattle.choice.proofs.Greedy.{Order, judged_order, same_push, generators_length, best_generators, same_generators}
 use Rattle.preferences.specs.Relation.{Relation, PreferenceLaws, judged}
 use Rattle.choice.proofs.Sums.{leaf_word, spread_word, coset_word, led-fresh, fresh-led}
-use Rattle.choice.proofs.Sieve.{below_split, below_join, offered_none, offered_same, offered_both, offered_more, kept_generators, offered_stays}
+use Rattle.choice.proofs.Sieve.{offered_none, offered_same, offered_more, kept_generators, offered_stays}
 
 -- a list with a first word is that word and the others
 pub words_head : (ws : List ℕ) → 1 ≤ length ws → get_or ws 0 0 ∷ take (length ws - 1) (drop 1 ws) ≡ ws

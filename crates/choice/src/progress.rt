@@ -91,14 +91,10 @@ impl<'a, L: Levels, P: Preference<L>> Judge<'a, L, P> {
     fn precedes_next(&self, candidate: &Candidate, word: u64) -> bool
         requires candidate { IsFor L.model self.now candidate.now }
         requires word { Word L.model self.now.factors word }
-        ensures yes {
-            let order = order_of L.model P.good self.now in
-            OnTrue result (NoLater order candidate.now.word word)
-        }
-        ensures no {
-            let order = order_of L.model P.good self.now in
-            OnFalse result (NoLater order word candidate.now.word)
-        }
+        ensures yes { let order = order_of L.model P.good self.now in
+            OnTrue result (NoLater order candidate.now.word word) }
+        ensures no { let order = order_of L.model P.good self.now in
+            OnFalse result (NoLater order word candidate.now.word) }
     {
         if candidate.tally.is_some() {
             self.precedes(candidate, &Candidate::new(word))

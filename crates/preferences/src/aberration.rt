@@ -67,15 +67,13 @@ fn longer<L: Levels>(a: u64, b: u64) -> Verdict
 // Of two words, the one whose aliases have fewer of the first length in which they differ.
 #[inline(never)]
 fn fewer_of_words<L: Levels>(base: &Span<L>, a: u64, b: u64) -> Verdict
-    ensures {
-        let n = base.now.factors in
+    ensures { let n = base.now.factors in
         let words = base.now.words.now in
         let good = least_aberration L.model in
         fair L.model n words ≡ true →
         Word L.model n a →
         Word L.model n b →
-        result ≡ verdict_of (good n words a b) (good n words b a)
-    }
+        result ≡ verdict_of (good n words a b) (good n words b a) }
 {
     fewer(&base.tally(a), &base.tally(b))
 }

@@ -1,8 +1,8 @@
-use Rattle.std.proofs.Common.{◌≡◌, ℕ, ◌+◌, ◌-◌, ◌*◌, ◌%◌, ◌^◌, ◌<◌, ◌≤◌, cond, eqb, length, get_or, arith}
+use Rattle.std.proofs.Common.{◌≡◌, ◌+◌, ◌%◌, ◌^◌, ◌<◌, ◌≤◌, cond, eqb, length, get_or, arith}
 use Rattle.std.proofs.lemmas.Bool.Decides.{nat_tests}
 use Rattle.levels.specs.Words.{digits}
 use Rattle.preferences.specs.Built.{cost}
-use Rattle.preferences.proofs.Points.{cost_turn, cost_past}
+use Rattle.preferences.proofs.Points.{cost_turn}
 use Rattle.preferences.proofs.cheapest.direct.Goals as goal
 use Rattle.preferences.proofs.cheapest.direct.Goals.{then-first_digit-ne0, else-first_digit-ne0}
 

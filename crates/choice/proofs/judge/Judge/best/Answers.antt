@@ -1,4 +1,4 @@
-use Rattle.std.proofs.Common.{◌≡◌, ◌≤◌, ◌++◌, ℕ, ◌-◌, List, length, get_or, take, drop, sym, ap, ◌∙◌, subst, arith}
+use Rattle.std.proofs.Common.{◌≡◌, ◌≤◌, ◌++◌, ℕ, ◌-◌, List, length, get_or, take, drop, sym, ap, subst, arith}
 use Rattle.levels.specs.Rows.{basis_rows}
 use Rattle.levels.proofs.Reduced.{space_at}
 use Rattle.choice.specs.Search.{Below, Led, LedAt, Offered}

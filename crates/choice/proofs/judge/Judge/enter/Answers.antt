@@ -1,7 +1,7 @@
-use Rattle.std.proofs.Common.{◌≡◌, ℕ, ◌∷◌, [], ◌++◌, ◌⊎◌, ◌<◌, ◌≤◌, List, length, get_or, take, drop, sym, ap, ◌∙◌, subst, inl, inr, arith}
+use Rattle.std.proofs.Common.{◌≡◌, ℕ, ◌∷◌, [], ◌++◌, ◌⊎◌, ◌≤◌, List, take, drop, sym, ap, ◌∙◌, subst, inl, inr, arith}
 use Rattle.std.proofs.lemmas.Bool.{OnTrue_at}
 use Rattle.levels.specs.Generated.{Generates}
-use Rattle.choice.specs.Search.{NoLater, Offered, sieve}
+use Rattle.choice.specs.Search.{Offered, sieve}
 use Rattle.choice.specs.Judged.{words_of, order_of}
 use Rattle.choice.proofs.Greedy.{judged_order}
 use Rattle.choice.proofs.Sieve.{offered_at, offered_stays}

@@ -1,14 +1,11 @@
-use Rattle.std.proofs.Common.{◌≡◌, ℕ, ◌-◌, Option, List, length, get_or, sym, ap, ◌∙◌, subst, inl, inr, arith}
+use Rattle.std.proofs.Common.{◌≡◌, ℕ, ◌-◌, List, length, get_or, sym, ap, ◌∙◌, subst, inl, inr, arith}
 use Rattle.std.proofs.lemmas.Bool.{cases_eq, OnTrue_at}
-use Rattle.std.specs.Prelude.{IfSome}
-use Rattle.levels.specs.Space.{Word}
 use Rattle.levels.proofs.Reduced.{space_at, alias_word}
-use Rattle.preferences.specs.Candidates.{IsTally}
 use Rattle.levels.specs.Basis.{LeastAlias}
 use Rattle.levels.specs.Rows.{basis_rows}
 use Rattle.levels.specs.Words.{word_sum}
-use Rattle.choice.specs.Search.{Coset, Leaf, NoLater}
-use Rattle.choice.specs.Judged.{OfferedTo, order_of, words_of, shared_rows}
+use Rattle.choice.specs.Search.{Coset, Leaf}
+use Rattle.choice.specs.Judged.{OfferedTo, words_of, shared_rows}
 use Rattle.choice.proofs.Offers.{leaf_legal, leaf_value, shared_base, shared_law, alias_behind}
 use Rattle.choice.proofs.Sums.{leaf_sum}
 use Rattle.choice.proofs.judge.Judge.next_ahead.Goals as goal

@@ -1,10 +1,10 @@
-use Rattle.std.proofs.Common.{◌≡◌, ℕ, ◌<◌, ◌≤◌, Option, List, length, get_or, subst, arith}
+use Rattle.std.proofs.Common.{◌≡◌, ℕ, Option, length, get_or, subst, arith}
 use Rattle.std.specs.Prelude.{IfSome, IfNone}
 use Rattle.levels.specs.Rows.{basis_rows}
 use Rattle.levels.specs.Words.{word_sum}
 use Rattle.choice.specs.declared.progress.Ahead.{Ahead}
-use Rattle.choice.specs.Search.{Below, Leaf, Offered}
-use Rattle.choice.specs.Judged.{Found, NoneAhead, OfferedTo, order_of, shared_rows, words_of}
+use Rattle.choice.specs.Search.{Below, Leaf}
+use Rattle.choice.specs.Judged.{Found, NoneAhead, OfferedTo, shared_rows, words_of}
 use Rattle.choice.proofs.Offers.{none_below, leaf_next, leaves_behind, offered_alias, shared_base, shared_law}
 use Rattle.choice.proofs.Sums.{leaf_sum}
 use Rattle.choice.proofs.judge.Judge.offer_leaves.Goals as goal

@@ -1,10 +1,9 @@
-use Rattle.std.proofs.Common.{◌≡◌, ℕ, [], ◌∷◌, ◌++◌, take, drop, sym, subst, arith}
+use Rattle.std.proofs.Common.{◌≡◌, [], ◌∷◌, ◌++◌, take, drop, sym, subst, arith}
 use Rattle.std.specs.List.{All}
 use Rattle.std.proofs.lemmas.List.Elements.{All-take, All-drop, All-append}
 use Rattle.bounded.specs.Items.{items_of}
 use Rattle.preferences.specs.declared.candidate.Candidate.{Candidate}
-use Rattle.choice.specs.declared.progress.Progress.{Progress}
-use Rattle.choice.specs.Judged.{Beside, FitsBy, ReadyFor}
+use Rattle.choice.specs.Judged.{Beside, ReadyFor}
 use Rattle.choice.proofs.judge.Judge.remember.Goals.{then-len-eq-MOST, else-len-eq-MOST}
 use Rattle.choice.proofs.judge.Judge.remember.Goals as goal
 

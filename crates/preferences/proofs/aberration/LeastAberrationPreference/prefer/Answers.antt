@@ -1,4 +1,4 @@
-use Rattle.std.proofs.Common.{◌≡◌, length, ◌∙◌, arith, rules}
+use Rattle.std.proofs.Common.{◌≡◌, length, ◌∙◌, rules}
 use Rattle.std.proofs.lemmas.List.{nil_from_length}
 use Rattle.preferences.specs.Counts.{lengths_of_words}
 use Rattle.preferences.proofs.aberration.LeastAberrationPreference.prefer.Goals as goal

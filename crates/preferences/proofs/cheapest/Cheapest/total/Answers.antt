@@ -1,4 +1,4 @@
-use Rattle.std.proofs.Common.{◌≡◌, ℕ, ◌+◌, ◌*◌, ◌/◌, ◌%◌, ◌^◌, ◌<◌, ◌≤◌, List, Bor, inl, inr, get_or, length, sym, ap, ◌∙◌, subst, arith}
+use Rattle.std.proofs.Common.{◌≡◌, ℕ, ◌*◌, ◌/◌, ◌^◌, List, Bor, inl, inr, sym, subst, arith}
 use Rattle.levels.specs.Arithmetic.{two, three}
 use Rattle.preferences.specs.Sums.{AreOfBytes}
 use Rattle.preferences.proofs.Tables.{same_bytes, total_start, total_turn, total_most, total_end, few_bits}
