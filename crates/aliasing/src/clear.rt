@@ -21,21 +21,21 @@ const BUCKETS: usize = 1024;
 
 const SPREAD: u64 = 0x9e37_79b9_7f4a_7c15;
 
-// One byte for each pair of factors, in the order (1,2), (1,3), up to (n − 1,n): 1 where the pair is clear, else 0.
+/// One byte for each pair of factors, in the order (1,2), (1,3), up to (n − 1,n): 1 where the pair is clear, else 0.
 #[derive(Clone, Copy)]
 pub struct ClearPairs {
     bytes: Bounded<u8, PAIRS>,
 }
 
 impl ClearPairs {
-    // One byte for each pair.
+    /// One byte for each pair.
     pub fn bytes(&self) -> &[u8]
         ensures { result.now ≡ pair_bytes self.now }
     {
         self.bytes.as_slice()
     }
 
-    // The number of ones: how many pairs are clear.
+    /// The number of ones: how many pairs are clear.
     pub fn ones(&self) -> usize
         ensures { result ≡ ones_in (pair_bytes self.now) }
     {
@@ -43,7 +43,7 @@ impl ClearPairs {
     }
 }
 
-// Which pairs of n factors are clear: no word of one letter and no other of two is in the alias set. Nothing for more than 32 factors.
+/// Which pairs of n factors are clear: no word of one letter and no other of two is in the alias set. Nothing for more than 32 factors.
 pub fn clear(n: u8, words: &[u64]) -> ClearPairs
     ensures pairs { n ≤ 32 → pair_bytes result ≡ clear_bytes n words.now }
     ensures none { 32 < n → pair_bytes result ≡ [] }
@@ -168,7 +168,6 @@ fn meet(least: &[u64], at: usize, sum: u64, last: &mut [u16], before: &mut [u16]
     let bucket = bucket(sum);
     let earlier = last[bucket];
     before[at] = earlier;
-    // as: From has no such pair, and TryFrom would bring an error that cannot come.
     last[bucket] = at as u16 + 1;
     let mut place = usize::from(earlier);
     while place > 0 {
@@ -184,7 +183,6 @@ fn meet(least: &[u64], at: usize, sum: u64, last: &mut [u16], before: &mut [u16]
 fn bucket(least: u64) -> usize
     ensures { result ≡ bucket_of least }
 {
-    // as: From has no such pair, and TryFrom would bring an error that cannot come.
     (least.wrapping_mul(SPREAD) >> 54) as usize
 }
 
@@ -215,6 +213,5 @@ fn top(word: u64) -> usize
     ensures high { word < 2 ^ result }
     ensures few { result ≤ 64 }
 {
-    // as: From has no such pair, and TryFrom would bring an error that cannot come.
     (64 - word.leading_zeros()) as usize
 }

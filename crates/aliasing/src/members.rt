@@ -12,7 +12,7 @@ ghost use Rattle.aliasing.specs.Blocks.{sums_below, block, above, Next, Entry};
 
 use levels::{Basis, Levels};
 
-// Member m, from 0 and in ascending code, of the alias set of a word; nothing past the last, and for an illegal word.
+/// Member m, from 0 and in ascending code, of the alias set of a word; nothing past the last, and for an illegal word.
 pub fn alias_member<L: Levels>(n: u8, words: &[u64], word: u64, m: u64) -> Option<u64>
     ensures member { Word L.Levels.model n word → MatchOption result (length (alias_set L.Levels.model n words.now word) ≤ m) (λ x. Member (alias_set L.Levels.model n words.now word) m x) }
     ensures entry { Word L.Levels.model n word → Entry (alias_set L.Levels.model n words.now word) m result }
@@ -46,12 +46,10 @@ fn next(rows: &[u64], floor: u64) -> Option<u64>
     rows.iter().copied().filter(|row| floor < *row).min()
 }
 
-// The sum at a place, from 0 and in ascending code, of a word and the multiples of a row. Here and below row, word and factors stand
-// apart: a type of them would be made for each row and taken apart at once.
+// The sum at a place, from 0 and in ascending code, of a word and the multiples of a row.
 fn pick<L: Levels>(n: u8, row: u64, word: u64, place: u64) -> Option<u64>
     ensures { Word L.Levels.model n row → 0 < row → Word L.Levels.model n word → place < L.Levels.model.s → result ≡ Some (slice_index (block L.Levels.model n row word) place) }
 {
-    // A loop: no proof was found with `find`.
     for level in 0..L::LEVELS {
         let sum = sum_with::<L>(n, row, word, level);
         if smaller::<L>(n, row, word, sum) == place {
@@ -65,7 +63,6 @@ fn pick<L: Levels>(n: u8, row: u64, word: u64, place: u64) -> Option<u64>
 fn smaller<L: Levels>(n: u8, row: u64, word: u64, code: u64) -> u64
     ensures { result ≡ how_many (λ y. nat_lt y code) (sums_below L.Levels.model n L.Levels.model.s row word) }
 {
-    // as: From has no such pair, and TryFrom would bring an error that cannot come.
     (0..L::LEVELS)
         .filter(|level| sum_with::<L>(n, row, word, *level) < code)
         .count() as u64
@@ -78,8 +75,8 @@ fn sum_with<L: Levels>(n: u8, row: u64, word: u64, level: u8) -> u64
     L::sum(n, word, L::product(n, level, row))
 }
 
-// Writes the alias set of a word, in ascending code, as much as there is room for; tells how many words are written.
-// Nothing for an illegal word.
+/// Writes the alias set of a word, in ascending code, as much as there is room for; tells how many words are written.
+/// Nothing for an illegal word.
 pub fn fill_aliases<L: Levels>(n: u8, words: &[u64], word: u64, memory: &mut [u64]) -> usize
     ensures count { Word L.Levels.model n word → result ≡ min (length (alias_set L.Levels.model n words.now word)) (length memory.old) }
     ensures stored { Word L.Levels.model n word → memory.new ≡ filled (alias_set L.Levels.model n words.now word) memory.old }

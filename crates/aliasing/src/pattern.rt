@@ -6,11 +6,11 @@ ghost use Rattle.aliasing.specs.Pattern.{count, pattern as Pattern, resolution a
 use levels::{Levels, Span};
 use std::array;
 
-// How many lengths there are: a word has at most 32 factors.
+/// How many lengths there are: a word has at most 32 factors.
 pub const LENGTHS: usize = 32;
 
-// The counts of lengths 1 to 32 of what at most 16 words generate. The number of words is a premise, here and below: a slice of any
-// length is taken, and a type with a limit would ask more. The array is full, with 0 above n.
+/// The counts of lengths 1 to 32 of what at most 16 words generate. The number of words is a premise, here and below: a slice of any
+/// length is taken, and a type with a limit would ask more. The array is full, with 0 above n.
 pub fn pattern<L: Levels>(n: u8, words: &[u64]) -> [u32; LENGTHS]
     ensures counts { length words.now ≤ 16 → (i : ℕ) → i < 32 → slice_index result i ≡ count L.Levels.model (generated L.Levels.model n words.now) (suc i) }
     ensures front { length words.now ≤ 16 → n ≤ 32 → take n result ≡ Pattern L.Levels.model n (generated L.Levels.model n words.now) }
@@ -36,17 +36,15 @@ fn fitting(amount: u64) -> u32
     u32::try_from(amount).unwrap_or(u32::MAX)
 }
 
-// The least length with a positive count, and that count.
+/// The least length with a positive count, and that count.
 pub fn resolution<L: Levels>(n: u8, words: &[u64]) -> Option<(u32, u32)>
     ensures least { length words.now ≤ 16 → result ≡ Resolution L.Levels.model n (generated L.Levels.model n words.now) }
     ensures law { length words.now ≤ 16 → ResolutionLaw L.Levels.model n (generated L.Levels.model n words.now) result }
     ensures absent { length words.now ≤ 16 → (result ≡ None → generated L.Levels.model n words.now ≡ 0 ∷ []) × (generated L.Levels.model n words.now ≡ 0 ∷ [] → result ≡ None) }
 {
     let counts = pattern::<L>(n, words);
-    // A loop: no proof was found with `(1..).zip(counts)` and `find`.
     for (place, count) in counts.iter().enumerate() {
         if *count > 0 {
-            // as: From has no such pair, and TryFrom would bring an error that cannot come.
             return Some((place as u32 + 1, *count));
         }
     }

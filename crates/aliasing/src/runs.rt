@@ -14,7 +14,7 @@ use std::array;
 // The number of a run, or of the place past the last, ends in at most 32 zeros in binary.
 const STEPS: usize = 33;
 
-// Run m, from 0, of n factors under a list of words, in ascending code; absent past the last.
+/// Run m, from 0, of n factors under a list of words, in ascending code; absent past the last.
 pub fn run(n: u8, words: &[u64], m: u64) -> Option<u64>
     ensures found { MatchOption result (runs_below n (generated two n words.now) (2 ^ n) ≤ m) (λ x. Run n (generated two n words.now) m x) }
     ensures total { 1 ≤ n → n ≤ 32 → Independent two n words.now → AllWords two n words.now → runs_below n (generated two n words.now) (2 ^ n) ≡ 2 ^ (n - length words.now) }
@@ -26,7 +26,7 @@ pub fn run(n: u8, words: &[u64], m: u64) -> Option<u64>
     Table::new(n, words).run(m)
 }
 
-// Writes the runs from a place on, in ascending code, as many as there are and the memory takes; tells how many.
+/// Writes the runs from a place on, in ascending code, as many as there are and the memory takes; tells how many.
 pub fn fill_runs(n: u8, words: &[u64], first: u64, memory: &mut [u64]) -> usize
     ensures count { result ≡ min (length (drop first (runs_upto n (generated two n words.now) (2 ^ n)))) (length memory.old) }
     ensures stored { memory.new ≡ filled (drop first (runs_upto n (generated two n words.now) (2 ^ n))) memory.old }
@@ -36,13 +36,12 @@ pub fn fill_runs(n: u8, words: &[u64], first: u64, memory: &mut [u64]) -> usize
     }
     let table = Table::new(n, words);
     let runs = 1u64 << table.free_factors();
-    // as: From has no such pair, and TryFrom would bring an error that cannot come.
     let count = memory.len().min(runs.saturating_sub(first) as usize);
     table.fill(first, &mut memory[..count]);
     count
 }
 
-// Whether an odd number of a word's letters are at level 1 in a run.
+/// Whether an odd number of a word's letters are at level 1 in a run.
 pub fn parity(run: u64, word: u64) -> bool
     ensures letters { (n : ℕ) → legal two n run ≡ true → legal two n word ≡ true → result ≡ (letters_at_one n run word % 2 == 1) }
     ensures bits { result ≡ (odd run word == 1) }
@@ -50,8 +49,8 @@ pub fn parity(run: u64, word: u64) -> bool
     (run & word).count_ones() % 2 == 1
 }
 
-// The block number of a run: one binary digit for each of at most 16 words, the lowest first, 1 where the word is odd. The number of words
-// is a premise, as in pattern.rt: a slice of any length is taken.
+/// The block number of a run: one binary digit for each of at most 16 words, the lowest first, 1 where the word is odd. The number of words
+/// is a premise, as in pattern.rt: a slice of any length is taken.
 pub fn block_number(run: u64, words: &[u64]) -> u32
     ensures { (n : ℕ) → legal two n run ≡ true → AllWords two n words.now → length words.now ≤ 16 → result ≡ block_number n run words.now }
 {
@@ -99,7 +98,6 @@ impl Table {
         ensures rows { self.new.rows ≡ placed self.old.factors 0 self.old.rows word }
     {
         let mut left = word;
-        // By places: no proof was found for a row that is lent from a struct with a ghost field.
         for p in 0..self.factors {
             let letter = left >> p & 1;
             if letter == 1 {
@@ -118,7 +116,6 @@ impl Table {
         ensures count { result ≡ empty_below self.now.rows self.now.factors }
         ensures few { result ≤ 32 }
     {
-        // as: From has no such pair, and TryFrom would bring an error that cannot come.
         self.rows[..usize::from(self.factors)]
             .iter()
             .filter(|row| **row == 0)
@@ -162,7 +159,6 @@ impl Table {
         let steps = self.steps();
         for (i, place) in memory.iter_mut().enumerate() {
             *place = run;
-            // as, here and below: From has no such pair, and TryFrom would bring an error that cannot come.
             let next = first + i as u64 + 1;
             run ^= steps[next.trailing_zeros() as usize];
         }

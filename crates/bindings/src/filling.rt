@@ -46,12 +46,7 @@ pub extern "C" fn zorilla_aliases(levels: u8, file: &[u8], word: u64, memory: &m
 
 /// Writes so many runs from a place on into memory; the value is how many they are.
 #[unsafe(no_mangle)]
-pub extern "C" fn zorilla_runs(
-    file: &[u8],
-    first: u64,
-    count: usize,
-    memory: &mut [u64],
-) -> Outcome
+pub extern "C" fn zorilla_runs(file: &[u8], first: u64, count: usize, memory: &mut [u64]) -> Outcome
     ensures answer { let runs = asked (read_file two file.now) (runs_from first count) in
         result ≡ outcome_of (wrote_ok runs memory.old) }
     ensures stored { let runs = asked (read_file two file.now) (runs_from first count) in

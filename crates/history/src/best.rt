@@ -29,7 +29,7 @@ pub fn best_generators_and_equal_answers<L: Levels, P: Preference<L>, S: Scored<
     // What each call answers is worked out from the calls alone, and so are plan and memory in the end.
     ensures answers { let stated = map (stated_call (meaning_by P.good S.good S.points)) calls.now in
         IfOk result (λ o.
-            map answered o.answers.items ≡ answers L.model stated new (lent memory.old)) }
+        map answered o.answers.items ≡ answers L.model stated new (lent memory.old)) }
     ensures plan { let stated = map (stated_call (meaning_by P.good S.good S.points)) calls.now in
         IfOk result (λ o. option_map state_of o.plan ≡ plan_after L.model stated new) }
     ensures memory { let stated = map (stated_call (meaning_by P.good S.good S.points)) calls.now in
@@ -38,7 +38,7 @@ pub fn best_generators_and_equal_answers<L: Levels, P: Preference<L>, S: Scored<
     // A question in the list is answered of the content that the calls before it settled.
     ensures in_place { let stated = map (stated_call (meaning_by P.good S.good S.points)) calls.now in
         IfOk result (λ o.
-            AnswersInPlace L.model stated (lent memory.old) (map answered o.answers.items)) }
+        AnswersInPlace L.model stated (lent memory.old) (map answered o.answers.items)) }
 
     // The promise, of all that any calls settle, and of the plan that came out of these.
     ensures of_calls { (made : List StatedCall) (p : Content) →

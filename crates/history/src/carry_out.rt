@@ -42,7 +42,7 @@ pub(crate) fn carry_out<L: Levels, P: Preference<L>, S: Scored<L>>(
 ) -> Result<Outcome<L>, AllocError>
     ensures answers { let stated = map (stated_call (meaning_by P.good S.good S.points)) calls.now in
         IfOk result (λ o.
-            map answered o.answers.items ≡ answers L.model stated new (lent memory.old)) }
+        map answered o.answers.items ≡ answers L.model stated new (lent memory.old)) }
     ensures plan { let stated = map (stated_call (meaning_by P.good S.good S.points)) calls.now in
         IfOk result (λ o. option_map state_of o.plan ≡ plan_after L.model stated new) }
     ensures memory { let stated = map (stated_call (meaning_by P.good S.good S.points)) calls.now in
@@ -81,7 +81,7 @@ fn step<L: Levels, P: Preference<L>, S: Scored<L>>(
         MatchOption result
         (lent memory.new ≡ lent memory.old)
         (λ r. (r.0, lent memory.new)
-            ≡ answer_to L.model stated (state_of trial).content (lent memory.old)) }
+        ≡ answer_to L.model stated (state_of trial).content (lent memory.old)) }
 {
     match trial {
         Trial::Open(plan) => step_open(plan, call),

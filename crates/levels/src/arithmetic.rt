@@ -3,10 +3,10 @@ ghost use Rattle.std.specs.Prelude.{◌≡◌, ◌*◌, ◌^◌, ◌&&◌, ℕ, 
 ghost use Rattle.levels.specs.Arithmetic.{Arithmetic, Lawful};
 ghost use Rattle.levels.specs.Words.{legal, code_sum, word_length, word_multiple, word_sum};
 
-// No arithmetic allows a plan more words: 2 to the power of 16 is 65,536, which s to the power of the limit never exceeds.
+/// No arithmetic allows a plan more words: 2 to the power of 16 is 65,536, which s to the power of the limit never exceeds.
 pub const MOST: usize = 16;
 
-// Levels of a factor: how many there are, how words of them are packed into codes, and how words are added.
+/// Levels of a factor: how many there are, how words of them are packed into codes, and how words are added.
 pub trait Levels {
     // what the levels and their packing are
     ghost model: { Arithmetic };
@@ -14,38 +14,38 @@ pub trait Levels {
     // the number of levels, s
     ghost LEVELS: { ℕ };
 
-    // The number of levels.
+    /// The number of levels.
     const LEVELS: u8;
 
     // the bits of a digit
     ghost BITS: { ℕ };
 
-    // The bits that a digit takes in a code.
+    /// The bits that a digit takes in a code.
     const BITS: u8;
 
     // the limit of words in a plan
     ghost LIMIT: { ℕ };
 
-    // The most words that a plan may have.
+    /// The most words that a plan may have.
     const LIMIT: usize;
 
-    // Whether a code is legal for n factors.
+    /// Whether a code is legal for n factors.
     fn legal(n: u8, word: u64) -> bool
         ensures { result ≡ legal model n word };
 
-    // The sum of two codes, digit by digit, whatever their digits.
+    /// The sum of two codes, digit by digit, whatever their digits.
     fn add(a: u64, b: u64) -> u64
         ensures { result ≡ code_sum model a b };
 
-    // The product of a level and a word of n factors; code 0 where the level is not below s or the word is illegal.
+    /// The product of a level and a word of n factors; code 0 where the level is not below s or the word is illegal.
     fn product(n: u8, level: u8, word: u64) -> u64
         ensures { result ≡ word_multiple model n level word };
 
-    // How many digits of a code are not 0.
+    /// How many digits of a code are not 0.
     fn length(word: u64) -> u8
         ensures { result ≡ word_length model word };
 
-    // The sum of two words of n factors; code 0 where one is illegal.
+    /// The sum of two words of n factors; code 0 where one is illegal.
     fn sum(n: u8, a: u64, b: u64) -> u64
         ensures { result ≡ word_sum model n a b }
     {
@@ -56,7 +56,7 @@ pub trait Levels {
         }
     }
 
-    // the digits form a field, and codes are packed by the rules
+    // the digits form a field, and a digit takes 1 bit with two levels, else 2
     ghost lawful: { Lawful model };
 
     // the number of levels is the model's

@@ -11,14 +11,14 @@ use bounded::Bounded;
 // Words of n factors have at most 32 independent ones.
 const ROWS: usize = 32;
 
-// Independent words. Each is the smallest code that is left of it by multiples of those before it.
+/// Independent words. Each is the smallest code that is left of it by multiples of those before it.
 #[derive(Clone, Copy)]
 pub struct Basis {
     rows: Bounded<u64, ROWS>,
 }
 
 impl Basis {
-    // No words.
+    /// No words.
     pub fn new() -> Basis
         ensures { basis_rows result ≡ [] }
     {
@@ -27,14 +27,14 @@ impl Basis {
         }
     }
 
-    // The rows, in the order in which they were admitted.
+    /// The rows, in the order in which they were admitted.
     pub fn rows(&self) -> &[u64]
         ensures { result.now ≡ basis_rows self.now }
     {
         self.rows.as_slice()
     }
 
-    // How many rows there are.
+    /// How many rows there are.
     pub fn len(&self) -> usize
         ensures count { result ≡ length (basis_rows self.now) }
         ensures few { result ≤ 32 }
@@ -42,15 +42,15 @@ impl Basis {
         self.rows.len()
     }
 
-    // What is left of a word by multiples of the rows: code 0 exactly if they generate it.
-    // Echelon rows and a legal word are premises: a basis that kept them would be of one number of factors, and asks more of callers.
+    /// What is left of a word by multiples of the rows: code 0 exactly if they generate it.
+    /// Echelon rows and a legal word are premises: a basis that kept them would be of one number of factors, and asks more of callers.
     pub fn reduce<L: Levels>(&self, n: u8, word: u64) -> u64
         ensures { Echelon L.Levels.model n (basis_rows self.now) → Word L.Levels.model n word → LeastAlias L.Levels.model n (basis_rows self.now) word result }
     {
         reduce_by::<L>(n, self.rows(), word)
     }
 
-    // One word more: nothing where it is illegal or generated already.
+    /// One word more: nothing where it is illegal or generated already.
     pub fn admit<L: Levels>(&mut self, n: u8, word: u64)
         ensures { Admitted L.Levels.model n (basis_rows self.old) word (basis_rows self.new) }
     {
@@ -63,7 +63,7 @@ impl Basis {
         }
     }
 
-    // All words of a list.
+    /// All words of a list.
     pub fn admit_all<L: Levels>(&mut self, n: u8, words: &[u64])
         ensures { Extended L.Levels.model n (basis_rows self.old) words.now (basis_rows self.new) }
     {
@@ -73,7 +73,7 @@ impl Basis {
     }
 }
 
-// What is left of a word by multiples of rows.
+/// What is left of a word by multiples of rows.
 pub fn reduce_by<L: Levels>(n: u8, rows: &[u64], word: u64) -> u64
     ensures { Echelon L.Levels.model n rows.now → Word L.Levels.model n word → LeastAlias L.Levels.model n rows.now word result }
 {
@@ -85,7 +85,6 @@ pub fn reduce_by<L: Levels>(n: u8, rows: &[u64], word: u64) -> u64
 }
 
 // The smallest code among a word plus the multiples of a row.
-// Row, word and factors stand apart here and in members.rt: a type of them would be made for each row and taken apart at once.
 fn least<L: Levels>(n: u8, row: u64, word: u64) -> u64
     ensures { Word L.Levels.model n row → Word L.Levels.model n word → LeastMultiple L.Levels.model n L.Levels.model.s row word result }
 {
@@ -96,7 +95,7 @@ fn least<L: Levels>(n: u8, row: u64, word: u64) -> u64
     smallest
 }
 
-// Whether a list of words generates a word. An illegal word of the list contributes nothing.
+/// Whether a list of words generates a word. An illegal word of the list contributes nothing.
 pub fn generated<L: Levels>(n: u8, words: &[u64], word: u64) -> bool
     ensures { Decides result (Generates L.Levels.model n words.now word) }
 {

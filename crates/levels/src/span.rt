@@ -10,19 +10,19 @@ use crate::arithmetic::Levels;
 use bounded::Bounded;
 use std::marker::PhantomData;
 
-// How many sums are listed at once: four words of three levels have 81.
+/// How many sums are listed at once: four words of three levels have 81.
 pub const LEAVES: usize = 81;
 
-// Sums of multiples of words.
+/// Sums of multiples of words.
 pub type Sums = Bounded<u64, LEAVES>;
 
-// A word has at most 32 factors, so it has one of 33 lengths.
+/// A word has at most 32 factors, so it has one of 33 lengths.
 pub const LENGTHS: usize = 33;
 
-// How many words there are of each length.
+/// How many words there are of each length.
 pub type Tally = [u64; LENGTHS];
 
-// Words of so many factors, with all sums of multiples of the last ones, which are listed once for all that is asked of them.
+/// Words of so many factors, with all sums of multiples of the last ones, which are listed once for all that is asked of them.
 #[derive(Drop)]
 pub struct Span<'a, L: Levels> {
     factors: u8,
@@ -35,7 +35,7 @@ pub struct Span<'a, L: Levels> {
 }
 
 impl<'a, L: Levels> Span<'a, L> {
-    // Of a list of words.
+    /// Of a list of words.
     pub fn new(factors: u8, words: &'a [u64]) -> Span<'a, L>
         ensures factors { result.factors ≡ factors }
         ensures words { result.words.now ≡ words.now }
@@ -50,22 +50,22 @@ impl<'a, L: Levels> Span<'a, L> {
         }
     }
 
-    // The number of factors.
+    /// The number of factors.
     pub fn factors(&self) -> u8
         ensures { result ≡ self.now.factors }
     {
         self.factors
     }
 
-    // The words.
+    /// The words.
     pub fn words(&self) -> &[u64]
         ensures { result.now ≡ self.now.words.now }
     {
         self.words
     }
 
-    // Counts, by length, the sums of a start and the multiples of the words: one for each choice of levels.
-    // All counts are 0 where the start is illegal.
+    /// Counts, by length, the sums of a start and the multiples of the words: one for each choice of levels.
+    /// All counts are 0 where the start is illegal.
     pub fn tally(&self, start: u64) -> Tally
         ensures { (i : ℕ) → i < 33 → slice_index result i ≡ tallied L.Levels.model self.now.factors self.now.words.now start i }
     {
@@ -78,7 +78,7 @@ impl<'a, L: Levels> Span<'a, L> {
     }
 }
 
-// All sums of multiples of the last words, of as many words as there is room for, behind the words that come before these.
+/// All sums of multiples of the last words, of as many words as there is room for, behind the words that come before these.
 pub fn list_sums<L: Levels>(n: u8, words: &[u64]) -> (&[u64], Sums)
     ensures words { result.0.now ++ drop (length result.0.now) words.now ≡ words.now }
     ensures few { length (items_of result.1) ≤ 81 }

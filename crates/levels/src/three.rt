@@ -39,7 +39,7 @@ impl Levels for ThreeLevels {
         within(Self::BITS, n, word) && word & (word >> 1) & LOW == 0
     }
 
-    // Less 3 in each digit whose sum reaches 3: both digits have a high bit, or one has it and one a low bit.
+    /// Less 3 in each digit whose sum reaches 3: both digits have a high bit, or one has it and one a low bit.
     fn add(a: u64, b: u64) -> u64 {
         let any = a | b;
         let reached = ((a & b) >> 1 | any & (any >> 1)) & LOW;
@@ -58,7 +58,6 @@ impl Levels for ThreeLevels {
     }
 
     fn length(word: u64) -> u8 {
-        // as: From has no such pair, and TryFrom would bring an error that cannot come.
         ((word | word >> 1) & LOW).count_ones() as u8
     }
 }

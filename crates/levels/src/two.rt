@@ -49,7 +49,6 @@ impl Levels for TwoLevels {
     }
 
     fn length(word: u64) -> u8 {
-        // as: From has no such pair, and TryFrom would bring an error that cannot come.
         word.count_ones() as u8
     }
 }

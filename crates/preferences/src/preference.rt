@@ -33,7 +33,7 @@ impl From<Ordering> for Verdict {
 }
 
 impl Verdict {
-    /// The verdict on the two words in the other order. By hand: a reversed Ordering would need two conversions.
+    /// The verdict on the two words in the other order.
     pub fn turned(self) -> Verdict
         ensures { result ≡ turned self }
     {

@@ -32,12 +32,11 @@ pub(crate) fn longest_of_six_factors(alloc: Global) -> Result<Settled, AllocErro
         counts: Vec::new(alloc),
         words: vec![in alloc; 0; 5]?,
     };
-    let Outcome { answers, plan } =
-        best_generators_and_equal_answers::<TwoLevels, Longest, Cheapest>(
-            alloc,
-            &calls,
-            &mut memory,
-        )?;
+    let Outcome { answers, plan } = best_generators_and_equal_answers::<
+        TwoLevels,
+        Longest,
+        Cheapest,
+    >(alloc, &calls, &mut memory)?;
     drop(memory);
     match plan {
         Some(Trial::Settled(plan)) => Ok(Settled { answers, plan }),
