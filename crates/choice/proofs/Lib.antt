@@ -1,5 +1,6 @@
 pub mod BestWord
 pub mod Greedy
+pub mod Least
 pub mod Sums
 pub mod Sieve
 pub mod Rows

@@ -1,11 +1,10 @@
 -- The order of a judge, and what stands beside the best words while it searches.
-use Rattle.std.specs.Prelude.{ℕ, Bool, cond, ◌<◌, ◌≤◌, List, [], length, slice_index}
+use Rattle.std.specs.Prelude.{◌≡◌, ℕ, Bool, cond, ◌<◌, ◌≤◌, List, [], length, slice_index}
 use Rattle.std.specs.Bool.{OnTrue}
 use Rattle.std.specs.List.{All}
 use Rattle.bounded.specs.Items.{items_of}
 use Rattle.levels.specs.Arithmetic.{Arithmetic}
 use Rattle.levels.specs.Space.{Word}
-use Rattle.levels.specs.Basis.{LeastAlias}
 use Rattle.levels.specs.Generated.{Generates}
 use Rattle.levels.specs.Words.{word_sum}
 use Rattle.levels.specs.Rows.{basis_rows}
@@ -16,9 +15,8 @@ use Rattle.preferences.specs.declared.candidate.Candidate.{Candidate}
 use Rattle.choice.specs.declared.judge.Judge.{Judge}
 use Rattle.choice.specs.declared.best.Best.{Best}
 use Rattle.choice.specs.declared.progress.Progress.{Progress}
-use Rattle.choice.specs.declared.progress.Ahead.{Ahead}
 use Rattle.choice.specs.Chosen.{chosen_words}
-use Rattle.choice.specs.Search.{Below, Fits, Kept, Leaf, LedAt, Offered, keep, sieve}
+use Rattle.choice.specs.Search.{Below, Fits, Kept, Leaf, Least, LedAt, NoLater, Offered, keep, sieve}
 
 -- the order by which a judge judges
 abbrev pub order_of : {L P : Type 0} {levels : Ghosts L} → Arithmetic → (P → Relation) → Judge L P levels → ℕ → ℕ → Bool
@@ -35,6 +33,10 @@ ReadyFor A judge candidate = IsReady A judge.factors judge.base.words.now candid
 -- a candidate that a judge can be asked of
 abbrev pub IsFor : {L P : Type 0} {levels : Ghosts L} → Arithmetic → Judge L P levels → Candidate → Type 0
 IsFor A judge candidate = Word A judge.factors candidate.word × ReadyFor A judge candidate
+
+-- a candidate of a word that a judge can be asked of
+abbrev pub KnownAs : {L P : Type 0} {levels : Ghosts L} → Arithmetic → Judge L P levels → ℕ → Candidate → Type 0
+KnownAs A judge w candidate = (candidate.word ≡ w) × ReadyFor A judge candidate
 
 -- a word put behind kept words, unless there is no room for it, or it is generated
 abbrev pub kept_by : {L P : Type 0} {levels : Ghosts L} → Arithmetic → Judge L P levels → List ℕ → ℕ → List ℕ
@@ -69,23 +71,33 @@ OfferedTo A good judge Among before after =
     Offered A judge.factors (order_of A good judge) judge.room judge.base.words.now Among before (words_of after)
     × Beside A judge after
 
--- a candidate is of the smallest code of the words that are alike to the sum of a start and the leaf at its place
-abbrev pub LeastAt : {L P : Type 0} {levels : Ghosts L} → Arithmetic → Judge L P levels → List ℕ → ℕ → Ahead → Type 0
-LeastAt A judge leaves start ahead =
-    let sum = word_sum A judge.factors start (slice_index leaves ahead.place) in
-    IsFor A judge ahead.candidate × LeastAlias A judge.factors (shared_rows judge) sum ahead.candidate.word
+-- a word that is the smallest code of those that a judge finds alike
+abbrev pub IsLeast : {L P : Type 0} {levels : Ghosts L} → Arithmetic → Judge L P levels → ℕ → Type 0
+IsLeast A judge w = Least A judge.factors (shared_rows judge) w
+
+-- so is each word of a list
+abbrev pub AllLeast : {L P : Type 0} {levels : Ghosts L} → Arithmetic → Judge L P levels → List ℕ → Type 0
+AllLeast A judge ws = (i : ℕ) → i < length ws → IsLeast A judge (slice_index ws i)
+
+-- the sums of a start and the leaves from one place on to another stand behind a word
+abbrev pub AllBehind : {L P : Type 0} {levels : Ghosts L} → Arithmetic → (P → Relation) → Judge L P levels → ℕ → List ℕ → ℕ → ℕ → ℕ → Type 0
+AllBehind A good judge w leaves start first end =
+    (k : ℕ) → first ≤ k → k < end → NoLater (order_of A good judge) w (word_sum A judge.factors start (slice_index leaves k))
+
+-- the first place of a leaf, from one on, whose sum with a start may stand before a word
+abbrev pub FirstAhead : {L P : Type 0} {levels : Ghosts L} → Arithmetic → (P → Relation) → Judge L P levels → ℕ → List ℕ → ℕ → ℕ → ℕ → Type 0
+FirstAhead A good judge w leaves start first place =
+    (first ≤ place) × (place < length leaves) × AllBehind A good judge w leaves start first place
 
 -- the words that are alike to the sums of a start and the leaves from one place on to another change nothing
 abbrev pub NoneAhead : {L P : Type 0} {levels : Ghosts L} → Arithmetic → (P → Relation) → Judge L P levels → Progress → List ℕ → ℕ → ℕ → ℕ → Type 0
 NoneAhead A good judge progress leaves start first end =
     (k : ℕ) → first ≤ k → k < end → OfferedTo A good judge (Leaf A judge.factors (shared_rows judge) leaves start k) (words_of progress) progress
 
--- the first candidate that may change something, of the leaves from one place on
-abbrev pub Found : {L P : Type 0} {levels : Ghosts L} → Arithmetic → (P → Relation) → Judge L P levels → Progress → List ℕ → ℕ → ℕ → Ahead → Type 0
-Found A good judge progress leaves start first ahead =
-    (first ≤ ahead.place) × (ahead.place < length leaves)
-    × LeastAt A judge leaves start ahead
-    × NoneAhead A good judge progress leaves start first ahead.place
+-- the first place of a leaf, from one on, whose sum with a start may change something
+abbrev pub Found : {L P : Type 0} {levels : Ghosts L} → Arithmetic → (P → Relation) → Judge L P levels → Progress → List ℕ → ℕ → ℕ → ℕ → Type 0
+Found A good judge progress leaves start first place =
+    (first ≤ place) × (place < length leaves) × NoneAhead A good judge progress leaves start first place
 
 -- each of some words is generated by the rows of the base list and the further words
 abbrev pub AllGenerated : {L P : Type 0} {levels : Ghosts L} → Arithmetic → Judge L P levels → List ℕ → Type 0

@@ -4,7 +4,7 @@ use Rattle.levels.specs.Arithmetic.{Arithmetic}
 use Rattle.levels.specs.Words.{word_sum, word_multiple}
 use Rattle.levels.specs.Space.{Word, AllWords}
 use Rattle.levels.specs.Generated.{Generates, SameWords, generated, holds}
-use Rattle.levels.specs.Basis.{Echelon}
+use Rattle.levels.specs.Basis.{Echelon, Smallest}
 use Rattle.preferences.specs.declared.preference.Verdict.{Verdict}
 use Rattle.preferences.specs.declared.preference.Verdict.TheVariants.{First, Second, Equal}
 
@@ -16,6 +16,11 @@ Below k Of w = (c : ℕ) × (c < k) × Of c w
 abbrev pub Coset : Arithmetic → ℕ → List ℕ → ℕ → ℕ → Type 0
 Coset A n [] start w = w ≡ start
 Coset A n (v ∷ vs) start w = Below A.s (λ c. Coset A n vs (word_sum A n start (word_multiple A n c v))) w
+
+-- A word that is the smallest code of those that are alike: multiples of the shared rows make it no smaller.
+pub record Least (A : Arithmetic) (n : ℕ) (shared : List ℕ) (w : ℕ) : Type 0 where
+  pub word : Word A n w
+  pub smallest : (i : ℕ) → i < length shared → Smallest A n (slice_index shared i) w
 
 -- w is a sum of a start, the leaf at a place and multiples of the shared rows
 abbrev pub Leaf : Arithmetic → ℕ → List ℕ → List ℕ → ℕ → ℕ → ℕ → Type 0

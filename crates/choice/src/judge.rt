@@ -3,13 +3,12 @@ ghost use Rattle.std.specs.Prelude.{◌≡◌, ◌≤◌, ◌-◌, ◌++◌, len
 ghost use Rattle.std.specs.Bool.{OnTrue, OnFalse};
 ghost use Rattle.levels.specs.Space.{Word};
 ghost use Rattle.levels.specs.Generated.{generated};
-ghost use Rattle.levels.specs.Basis.{Echelon, LeastAlias};
+ghost use Rattle.levels.specs.Basis.{Echelon};
 ghost use Rattle.levels.specs.Rows.{basis_rows};
 ghost use Rattle.preferences.specs.Relation.{fair, EqualAliases};
 ghost use Rattle.choice.specs.Search.{NoLater, first_stands};
 
 use crate::chosen::MOST;
-use levels::basis::reduce_by;
 use levels::{Basis, Levels, Span};
 use preferences::{Candidate, Preference, Verdict, fair};
 
@@ -114,19 +113,6 @@ impl<'a, L: Levels, P: Preference<L>> Judge<'a, L, P> {
         ensures front { take result (basis_rows self.now.whole) ≡ shared_rows self.now }
     {
         if self.alike { self.known.len() } else { 0 }
-    }
-
-    // The smallest code of a word and those that are alike.
-    #[inline]
-    pub(crate) fn smallest(&self, word: u64) -> u64
-        requires { Word L.model self.now.factors word }
-        ensures { LeastAlias L.model self.now.factors (shared_rows self.now) word result }
-    {
-        if self.alike {
-            reduce_by::<L>(self.factors, self.known.rows(), word)
-        } else {
-            word
-        }
     }
 }
 

@@ -23,15 +23,8 @@ pub(crate) struct Progress {
     pub(crate) candidates: Bounded<Candidate, MOST>,
 }
 
-// The candidate of a leaf at a place.
-#[derive(Drop)]
-pub(crate) struct Ahead {
-    pub(crate) place: usize,
-    pub(crate) candidate: Candidate,
-}
-
 impl<'a, L: Levels, P: Preference<L>> Judge<'a, L, P> {
-    ghost use Rattle.choice.specs.Judged.{Beside, Found, IsFor, KeptBy, LeastAt, NoneAhead, OfferedTo, ReadyFor, order_of, shared_rows, words_of};
+    ghost use Rattle.choice.specs.Judged.{AllBehind, AllLeast, Beside, FirstAhead, Found, IsFor, IsLeast, KeptBy, KnownAs, NoneAhead, OfferedTo, ReadyFor, order_of, shared_rows, words_of};
 
     // No words so far.
     pub(crate) fn start(&self) -> Progress
@@ -44,18 +37,17 @@ impl<'a, L: Levels, P: Preference<L>> Judge<'a, L, P> {
         }
     }
 
-    // What is known of a word: from when it entered, or worked out anew.
-    fn candidate(&self, progress: &Progress, word: u64) -> Candidate
+    // What was worked out of a word when it entered.
+    fn known<'p>(&self, progress: &'p Progress, word: u64) -> Option<&'p Candidate>
         requires { All (ReadyFor L.model self.now) (items_of progress.now.candidates) }
-        ensures word { result.word ≡ word }
-        ensures ready { ReadyFor L.model self.now result }
+        ensures { IfSome result (λ known. KnownAs L.model self.now word known.now) }
     {
         for candidate in progress.candidates.as_slice() {
             if candidate.word == word {
-                return *candidate;
+                return Some(candidate);
             }
         }
-        self.preference.ready(&self.base, word)
+        None
     }
 
     // A candidate that was worked out is kept, and the first of too many goes.
@@ -73,19 +65,6 @@ impl<'a, L: Levels, P: Preference<L>> Judge<'a, L, P> {
         }
     }
 
-    // Whether a candidate stands before one of the best words so far.
-    fn precedes_kept(&self, progress: &Progress, candidate: &Candidate, word: u64) -> bool
-        requires candidate { IsFor L.model self.now candidate.now }
-        requires word { Word L.model self.now.factors word }
-        requires ready { All (ReadyFor L.model self.now) (items_of progress.now.candidates) }
-        ensures yes { let order = order_of L.model P.good self.now in
-            OnTrue result (NoLater order candidate.now.word word) }
-        ensures no { let order = order_of L.model P.good self.now in
-            OnFalse result (NoLater order word candidate.now.word) }
-    {
-        self.precedes(candidate, &self.candidate(progress, word))
-    }
-
     // Whether a candidate stands before a word, of which nothing is kept.
     #[inline(always)]
     fn precedes_next(&self, candidate: &Candidate, word: u64) -> bool
@@ -100,6 +79,22 @@ impl<'a, L: Levels, P: Preference<L>> Judge<'a, L, P> {
             self.precedes(candidate, &Candidate::new(word))
         } else {
             self.precedes_word(candidate.word, word)
+        }
+    }
+
+    // Whether a candidate stands before one of the best words so far.
+    fn precedes_kept(&self, progress: &Progress, candidate: &Candidate, word: u64) -> bool
+        requires candidate { IsFor L.model self.now candidate.now }
+        requires word { Word L.model self.now.factors word }
+        requires ready { All (ReadyFor L.model self.now) (items_of progress.now.candidates) }
+        ensures yes { let order = order_of L.model P.good self.now in
+            OnTrue result (NoLater order candidate.now.word word) }
+        ensures no { let order = order_of L.model P.good self.now in
+            OnFalse result (NoLater order word candidate.now.word) }
+    {
+        match self.known(progress, word) {
+            Some(kept) => self.precedes(candidate, kept),
+            None => self.precedes_next(candidate, word),
         }
     }
 
@@ -126,15 +121,14 @@ impl<'a, L: Levels, P: Preference<L>> Judge<'a, L, P> {
         front.len()
     }
 
-    // A word is offered to the best so far, for all that are alike: the smallest code of them is.
+    // A word is offered to the best so far, for all that are alike: it is the smallest code of them.
     pub(crate) fn offer(&self, progress: &mut Progress, word: u64)
-        requires word { Word L.model self.now.factors word }
+        requires word { IsLeast L.model self.now word }
         requires kept { KeptBy L.model P.good self.now progress.old }
         ensures { let alike = Coset L.model self.now.factors (shared_rows self.now) word in
             OfferedTo L.model P.good self.now alike (words_of progress.old) progress.new }
     {
-        let least = self.smallest(word);
-        self.enter(progress, self.preference.ready(&self.base, least));
+        self.enter(progress, self.preference.ready(&self.base, word));
     }
 
     // A candidate is put among the best words, unless they are full or generate it.
@@ -152,33 +146,45 @@ impl<'a, L: Levels, P: Preference<L>> Judge<'a, L, P> {
         }
     }
 
-    // The smallest code of the words that are alike to the sum of a start and the leaf at a place.
+    // The first leaf, from a place on, whose sum with a start does not stand behind a candidate.
     #[inline(always)]
-    fn least_at(&self, leaves: &[u64], place: usize, start: u64) -> Ahead
-        requires place { place < length leaves.now }
-        requires start { Word L.model self.now.factors start }
-        requires words { AllWords L.model self.now.factors leaves.now }
-        ensures place { result.place ≡ place }
-        ensures least { LeastAt L.model self.now leaves.now start result }
+    fn first_ahead(
+        &self,
+        last: &Candidate,
+        leaves: &[u64],
+        first: usize,
+        start: u64,
+    ) -> Option<usize>
+        requires first { first ≤ length leaves.now }
+        requires start { IsLeast L.model self.now start }
+        requires leaves { AllLeast L.model self.now leaves.now }
+        requires last { IsFor L.model self.now last.now }
+        ensures some { let word = last.now.word in
+            IfSome result (FirstAhead L.model P.good self.now word leaves.now start first) }
+        ensures none { let end = length leaves.now in
+            let word = last.now.word in
+            IfNone result (AllBehind L.model P.good self.now word leaves.now start first end) }
     {
-        let word = self.smallest(L::add(start, leaves[place]));
-        Ahead {
-            place,
-            candidate: self.preference.ready(&self.base, word),
+        for place in first..leaves.len() {
+            if !self.precedes_next(last, L::add(start, leaves[place])) {
+                return Some(place);
+            }
         }
+        None
     }
 
-    // The first leaf, from a place on, whose sum with a start does not stand behind as many words as there is room for.
+    // The first leaf, from a place on, whose sum with a start does not stand behind the last of the best words, where these are full.
+    #[inline]
     pub(crate) fn next_ahead(
         &self,
         progress: &Progress,
         leaves: &[u64],
         first: usize,
         start: u64,
-    ) -> Option<Ahead>
+    ) -> Option<usize>
         requires first { first < length leaves.now }
-        requires start { Word L.model self.now.factors start }
-        requires words { AllWords L.model self.now.factors leaves.now }
+        requires start { IsLeast L.model self.now start }
+        requires leaves { AllLeast L.model self.now leaves.now }
         requires kept { KeptBy L.model P.good self.now progress.now }
         ensures some { IfSome result (Found L.model P.good self.now progress.now leaves.now start first) }
         ensures none { let end = length leaves.now in
@@ -187,28 +193,17 @@ impl<'a, L: Levels, P: Preference<L>> Judge<'a, L, P> {
     {
         let words = progress.best.words.words();
         if words.len() < self.room {
-            return Some(self.least_at(leaves, first, start));
+            return Some(first);
         }
         let [.., last] = words else {
-            return Some(self.least_at(leaves, first, start));
+            return Some(first);
         };
-        let last = self.candidate(progress, *last);
-        // A large alias set is counted once, and what was counted is handed on; of small ones and of words it is not worth it.
-        if last.tally.is_some() && self.known.len() > SMALL {
-            for k in first..leaves.len() {
-                let ahead = self.least_at(leaves, k, start);
-                if !self.precedes(&last, &ahead.candidate) {
-                    return Some(ahead);
-                }
-            }
-        } else {
-            for place in first..leaves.len() {
-                let word = self.smallest(L::add(start, leaves[place]));
-                if !self.precedes_next(&last, word) {
-                    return Some(self.least_at(leaves, place, start));
-                }
+        match self.known(progress, *last) {
+            Some(last) => self.first_ahead(last, leaves, first, start),
+            None => {
+                let last = self.preference.ready(&self.base, *last);
+                self.first_ahead(&last, leaves, first, start)
             }
         }
-        None
     }
 }

@@ -1,7 +1,6 @@
 // The walk through all words that a search asks of.
 ghost use Rattle.std.specs.Prelude.{◌++◌, []};
 ghost use Rattle.std.specs.Bool.{OnTrue};
-ghost use Rattle.levels.specs.Space.{AllWords, Word};
 ghost use Rattle.preferences.specs.Relation.{EqualAliases};
 ghost use Rattle.choice.specs.Chosen.{chosen_words};
 ghost use Rattle.choice.specs.Search.{Coset, Led, Offered, OneOf, Spread};
@@ -14,7 +13,7 @@ use levels::span::list_sums;
 use preferences::Preference;
 
 impl<'a, L: Levels, P: Preference<L>> Judge<'a, L, P> {
-    ghost use Rattle.choice.specs.Judged.{AllGenerated, FoundBy, KeptBy, OfferedTo, shared_rows, words_of};
+    ghost use Rattle.choice.specs.Judged.{AllGenerated, AllLeast, FoundBy, IsLeast, KeptBy, OfferedTo, shared_rows, words_of};
 
     // The best words of all.
     pub(crate) fn best(&self) -> Chosen
@@ -38,9 +37,9 @@ impl<'a, L: Levels, P: Preference<L>> Judge<'a, L, P> {
         ensures generated { AllGenerated L.model self.now (words_of result) }
     {
         let mut progress = self.start();
+        let from = self.shared();
         let rows = &self.whole.rows()[self.known.len()..];
         self.offer_all(&mut progress, rows);
-        let from = self.shared();
         if self.room > 0 && from <= SMALL {
             let (before, sums) = list_sums::<L>(self.factors, &self.whole.rows()[from..]);
             let mut start = 0;
@@ -54,7 +53,7 @@ impl<'a, L: Levels, P: Preference<L>> Judge<'a, L, P> {
 
     // Each word of a list is offered.
     fn offer_all(&self, progress: &mut Progress, words: &[u64])
-        requires words { AllWords L.model self.now.factors words.now }
+        requires words { AllLeast L.model self.now words.now }
         requires kept { KeptBy L.model P.good self.now progress.old }
         ensures { let listed = OneOf L.model self.now.factors (shared_rows self.now) words.now in
             OfferedTo L.model P.good self.now listed (words_of progress.old) progress.new }
@@ -66,8 +65,8 @@ impl<'a, L: Levels, P: Preference<L>> Judge<'a, L, P> {
 
     // Each sum of a start and a leaf is offered.
     fn offer_leaves(&self, progress: &mut Progress, leaves: &[u64], start: u64)
-        requires start { Word L.model self.now.factors start }
-        requires words { AllWords L.model self.now.factors leaves.now }
+        requires start { IsLeast L.model self.now start }
+        requires leaves { AllLeast L.model self.now leaves.now }
         requires kept { KeptBy L.model P.good self.now progress.old }
         ensures { let sums = Spread L.model self.now.factors (shared_rows self.now) [] leaves.now start in
             OfferedTo L.model P.good self.now sums (words_of progress.old) progress.new }
@@ -75,9 +74,9 @@ impl<'a, L: Levels, P: Preference<L>> Judge<'a, L, P> {
         let mut next = 0;
         while next < leaves.len() {
             match self.next_ahead(progress, leaves, next, start) {
-                Some(ahead) => {
-                    self.enter(progress, ahead.candidate);
-                    next = ahead.place + 1;
+                Some(place) => {
+                    self.offer(progress, L::add(start, leaves[place]));
+                    next = place + 1;
                 }
                 None => next = leaves.len(),
             }
@@ -86,8 +85,9 @@ impl<'a, L: Levels, P: Preference<L>> Judge<'a, L, P> {
 
     // Each sum of a start, multiples of the words, and a leaf is offered.
     fn offer_over_leaves(&self, progress: &mut Progress, words: &[u64], leaves: &[u64], start: u64)
-        requires start { Word L.model self.now.factors start }
-        requires words { AllWords L.model self.now.factors leaves.now }
+        requires start { IsLeast L.model self.now start }
+        requires words { AllLeast L.model self.now words.now }
+        requires leaves { AllLeast L.model self.now leaves.now }
         requires kept { KeptBy L.model P.good self.now progress.old }
         ensures { let shared = shared_rows self.now in
             let sums = Spread L.model self.now.factors shared words.now leaves.now start in
@@ -106,7 +106,8 @@ impl<'a, L: Levels, P: Preference<L>> Judge<'a, L, P> {
 
     // Each sum of a start and what the rows generate is offered.
     fn offer_coset(&self, progress: &mut Progress, rows: &[u64], start: u64)
-        requires start { Word L.model self.now.factors start }
+        requires start { IsLeast L.model self.now start }
+        requires rows { AllLeast L.model self.now rows.now }
         requires kept { KeptBy L.model P.good self.now progress.old }
         ensures { let sums = Coset L.model self.now.factors (rows.now ++ shared_rows self.now) start in
             OfferedTo L.model P.good self.now sums (words_of progress.old) progress.new }
@@ -117,7 +118,8 @@ impl<'a, L: Levels, P: Preference<L>> Judge<'a, L, P> {
 
     // Each word that is led by a word is offered: a multiple of it, other than by 0, plus what the rows generate.
     fn offer_led(&self, progress: &mut Progress, rows: &[u64], lead: u64)
-        requires lead { Word L.model self.now.factors lead }
+        requires lead { IsLeast L.model self.now lead }
+        requires rows { AllLeast L.model self.now rows.now }
         requires kept { KeptBy L.model P.good self.now progress.old }
         ensures { let led = Led L.model self.now.factors (rows.now ++ shared_rows self.now) lead in
             OfferedTo L.model P.good self.now led (words_of progress.old) progress.new }

@@ -13,6 +13,7 @@ pub mod Multiplicity
 pub mod Places
 pub mod Reduced
 pub mod Sets
+pub mod Shorter
 pub mod Space
 pub mod Theory
 pub mod Units

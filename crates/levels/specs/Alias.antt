@@ -1,5 +1,6 @@
 -- Alias sets, and how many words of a length a list has.
-use Rattle.std.specs.Prelude.{◌≡◌, ℕ, ◌+◌, ◌%◌, ◌^◌, ◌<◌, Bool, cond, List, [], ◌∷◌, map, nat_eq, slice_index}
+use Rattle.std.specs.Prelude.{◌≡◌, ℕ, ◌+◌, ◌%◌, ◌^◌, ◌<◌, Bool, cond, List, [], ◌∷◌, map, nat_eq, nat_lt, slice_index}
+use Rattle.std.specs.List.{list_any}
 use Rattle.levels.specs.Arithmetic.{Arithmetic}
 use Rattle.levels.specs.Words.{legal, word_sum, word_multiple, word_length}
 use Rattle.levels.specs.Generated.{combinations, generated, ascending, each_below}
@@ -28,6 +29,10 @@ repeats A n ws = how_many (nat_eq 0) (combinations A n ws)
 -- how many aliases of w have length i, as a count of 64 bits; none where w is illegal
 abbrev pub tallied : Arithmetic → ℕ → List ℕ → ℕ → ℕ → ℕ
 tallied A n ws w i = cond (legal A n w) (of_length A i (aliases A n ws w) % 2 ^ 64) 0
+
+-- whether one of some words is shorter than a length
+abbrev pub any_shorter : Arithmetic → ℕ → List ℕ → Bool
+any_shorter A k ws = list_any (λ w. nat_lt (word_length A w) k) ws
 
 -- the words of a list plus each multiple of w by a level below k
 abbrev pub multiples_below : Arithmetic → ℕ → ℕ → ℕ → List ℕ → List ℕ

@@ -4,7 +4,7 @@ ghost use Rattle.bounded.specs.Items.{items_of};
 ghost use Rattle.levels.specs.Space.{AllWords, Word};
 ghost use Rattle.levels.specs.Words.{legal, word_sum};
 ghost use Rattle.levels.specs.Generated.{combinations};
-ghost use Rattle.levels.specs.Alias.{Adds, tallied, with_multiples, with_all_multiples};
+ghost use Rattle.levels.specs.Alias.{Adds, aliases, any_shorter, tallied, with_multiples, with_all_multiples};
 
 use crate::arithmetic::Levels;
 use bounded::Bounded;
@@ -76,6 +76,22 @@ impl<'a, L: Levels> Span<'a, L> {
         }
         counts
     }
+
+    /// Whether a sum of a start and multiples of the words has fewer digits other than 0 than a bound. None has where the start is
+    /// illegal.
+    pub fn any_shorter(&self, start: u64, bound: u8) -> bool
+        ensures { let n = self.now.factors in
+            let all = aliases L.model n self.now.words.now start in
+            result ≡ (legal L.model n start && any_shorter L.model bound all) }
+    {
+        L::legal(self.factors, start) && shorter::<L>(
+            self.factors,
+            self.before,
+            self.sums.as_slice(),
+            start,
+            bound,
+        )
+    }
 }
 
 /// All sums of multiples of the last words, of as many words as there is room for, behind the words that come before these.
@@ -144,4 +160,31 @@ fn count<L: Levels>(n: u8, words: &[u64], leaves: &[u64], start: u64, counts: &m
             }
         }
     }
+}
+
+// Whether a sum of a start, multiples of words and a leaf is shorter than a bound.
+fn shorter<L: Levels>(n: u8, words: &[u64], leaves: &[u64], start: u64, bound: u8) -> bool
+    requires start { Word L.model n start }
+    requires legal { AllWords L.model n leaves.now }
+    ensures { let sums = with_all_multiples L.model n words.now leaves.now in
+        result ≡ any_shorter L.model bound (map (word_sum L.model n start) sums) }
+{
+    match words {
+        [] => {
+            for leaf in leaves {
+                if L::length(L::add(start, *leaf)) < bound {
+                    return true;
+                }
+            }
+        }
+        [word, rest @ ..] => {
+            for level in 0..L::LEVELS {
+                let next = L::add(start, L::product(n, level, *word));
+                if shorter::<L>(n, rest, leaves, next, bound) {
+                    return true;
+                }
+            }
+        }
+    }
+    false
 }

@@ -142,5 +142,11 @@ pub fn all_legal<L: Levels>(n: u8, words: &[u64]) -> bool
 pub fn smaller(a: u64, b: u64) -> Verdict
     ensures { result ≡ verdict_of (nat_le a b) (nat_le b a) }
 {
-    Verdict::from(a.cmp(&b))
+    if a < b {
+        Verdict::First
+    } else if b < a {
+        Verdict::Second
+    } else {
+        Verdict::Equal
+    }
 }

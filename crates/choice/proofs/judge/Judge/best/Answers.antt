@@ -1,7 +1,8 @@
 use Rattle.std.proofs.Common.{◌≡◌, ◌≤◌, ◌++◌, ℕ, ◌-◌, List, length, get_or, take, drop, sym, ap, subst, arith}
 use Rattle.levels.specs.Rows.{basis_rows}
 use Rattle.levels.proofs.Reduced.{space_at}
-use Rattle.choice.specs.Search.{Below, Led, LedAt, Offered}
+use Rattle.choice.specs.Search.{Below, Least, Led, LedAt, Offered}
+use Rattle.choice.proofs.Least.{part_least, rows_least}
 use Rattle.choice.specs.Judged.{OfferedTo, order_of, shared_rows, words_of}
 use Rattle.choice.proofs.Offers.{led_rows_none, led_row, led_same, middle_same}
 use Rattle.choice.proofs.judge.Judge.best.Goals as goal
@@ -14,6 +15,25 @@ loop-i-init g c =
     let sampled = c.sample-progress.result in
     subst (λ (i : ℕ). OfferedTo g.L.Levels.model g.P.Preference.good s (Below i (LedAt g.L.Levels.model s.factors (basis_rows s.whole) k)) (words_of sampled) sampled) (sym c.len-i.ensures.count)
     (led_rows_none g.L.Levels.model g.met.L.Levels.lawful (g.P.Preference.good s.preference.now) (g.met.P.Preference.lawful s.preference.now) s.factors s.room s.base.words.now (basis_rows s.whole) k (words_of sampled) c.sample-progress.ensures.kept.0, c.sample-progress.ensures.kept.1)
+
+-- each added row is the smallest code of those that are alike
+pub offer_led-requires-clause-lead : goal.offer_led-requires-clause-lead
+offer_led-requires-clause-lead g c =
+    let s = c.args.self.now in
+    let i = c.loop-i.i in
+    let front : c.shared-from.result ≤ i = omega (arith, c.shared-from.ensures.within, c.loop-i.auto.i, c.len-i.ensures.count) in
+    subst (λ (us : List ℕ). Least g.L.Levels.model s.factors (shared_rows s) (get_or us i 0)) (sym c.rows-rows.ensures)
+    (rows_least g.L.Levels.model g.met.L.Levels.lawful s.factors (basis_rows s.whole) (shared_rows s) c.shared-from.result s.all c.shared-from.ensures.front i front (omega (arith, c.loop-i-test.true, ap length c.rows-rows.ensures)))
+
+-- so are those before it
+pub offer_led-requires-clause-rows : goal.offer_led-requires-clause-rows
+offer_led-requires-clause-rows g c =
+    let s = c.args.self.now in
+    let from = c.shared-from.result in
+    let count = c.loop-i.i - from in
+    let rows = c.rows-rows.result.now in
+    part_least g.L.Levels.model g.met.L.Levels.lawful s.factors (basis_rows s.whole) (shared_rows s) from from s.all c.shared-from.ensures.front (omega arith)
+    (take count (drop from rows)) count (ap (λ (us : List ℕ). take count (drop from us)) c.rows-rows.ensures)
 
 -- the words led by one row more
 pub loop-i-preserved : goal.loop-i-preserved

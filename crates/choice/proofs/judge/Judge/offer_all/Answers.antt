@@ -19,7 +19,7 @@ pub loop-word-preserved : goal.loop-word-preserved
 loop-word-preserved g c =
     let s = c.args.self.now in (
       one_of_more g.L.Levels.model g.met.L.Levels.lawful (g.P.Preference.good s.preference.now) (g.met.P.Preference.lawful s.preference.now) s.factors s.room s.base.words.now (shared_rows s)
-          c.args.words.now c.requires.words c.loop-word.word-index c.loop-word-test.true (words_of c.args.progress.now) (words_of c.loop-word.progress) (words_of c.offer.new.progress) c.loop-word.invariant.0 c.offer.ensures.0,
+          c.args.words.now (λ i l. (c.requires.words i l).word) c.loop-word.word-index c.loop-word-test.true (words_of c.args.progress.now) (words_of c.loop-word.progress) (words_of c.offer.new.progress) c.loop-word.invariant.0 c.offer.ensures.0,
       c.offer.ensures.1,
     )
 

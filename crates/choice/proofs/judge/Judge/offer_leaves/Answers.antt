@@ -1,12 +1,11 @@
-use Rattle.std.proofs.Common.{◌≡◌, ℕ, Option, length, get_or, subst, arith}
+use Rattle.std.proofs.Common.{◌≡◌, ℕ, Option, length, subst, arith}
 use Rattle.std.specs.Prelude.{IfSome, IfNone}
 use Rattle.levels.specs.Rows.{basis_rows}
-use Rattle.levels.specs.Words.{word_sum}
-use Rattle.choice.specs.declared.progress.Ahead.{Ahead}
-use Rattle.choice.specs.Search.{Below, Leaf}
+use Rattle.levels.specs.Space.{AllWords}
+use Rattle.choice.specs.Search.{Below, Coset, Leaf}
 use Rattle.choice.specs.Judged.{Found, NoneAhead, OfferedTo, shared_rows, words_of}
-use Rattle.choice.proofs.Offers.{none_below, leaf_next, leaves_behind, offered_alias, shared_base, shared_law}
-use Rattle.choice.proofs.Sums.{leaf_sum}
+use Rattle.choice.proofs.Least.{least_leaf, shared_echelon}
+use Rattle.choice.proofs.Offers.{none_below, leaf_next, leaf_value, leaves_behind}
 use Rattle.choice.proofs.judge.Judge.offer_leaves.Goals as goal
 
 -- at first, none
@@ -22,10 +21,19 @@ loop-next-init g c =
       );
     }
 
--- the candidate that is ahead
-pub enter-requires-clause-candidate : goal.enter-requires-clause-candidate
-enter-requires-clause-candidate g c =
-    (subst (λ (r : Option Ahead). IfSome r (Found g.L.Levels.model g.P.Preference.good c.args.self.now c.loop-next.progress c.args.leaves.now c.args.start c.loop-next.next)) c.in-Some.is c.next_ahead.ensures.some).2.0
+-- the place is one of a leaf
+pub bounds-leaves-place : goal.bounds-leaves-place
+bounds-leaves-place g c =
+    (subst (λ (r : Option ℕ). IfSome r (Found g.L.Levels.model g.P.Preference.good c.args.self.now c.loop-next.progress c.args.leaves.now c.args.start c.loop-next.next)) c.in-Some.is c.next_ahead.ensures.some).1
+
+-- the sum is the smallest code of those that are alike
+pub offer-requires-clause-word : goal.offer-requires-clause-word
+offer-requires-clause-word g c =
+    let s = c.args.self.now in
+    let A = g.L.Levels.model in
+    let found = subst (λ (r : Option ℕ). IfSome r (Found A g.P.Preference.good s c.loop-next.progress c.args.leaves.now c.args.start c.loop-next.next)) c.in-Some.is c.next_ahead.ensures.some in
+    least_leaf A g.met.L.Levels.lawful s.factors (shared_rows s) (shared_echelon A s.factors (basis_rows s.known) s.alike s.echelon) c.args.leaves.now c.args.start c.requires.start c.requires.leaves
+    c.in-Some.place c.add.result found.1 c.add.ensures
 
 -- the leaves that change nothing, and one more
 pub loop-next-preserved-in-Some : goal.loop-next-preserved-in-Some
@@ -37,22 +45,22 @@ loop-next-preserved-in-Some g c =
     let good = g.P.Preference.good s.preference.now in
     let laws = g.met.P.Preference.lawful s.preference.now in
     let base = s.base.words.now in
-    let known = basis_rows s.known in
+    let shared = shared_rows s in
     let leaves = c.args.leaves.now in
+    let start = c.args.start in
+    let words : AllWords A n leaves = λ i l. (c.requires.leaves i l).word in
     let before = words_of c.args.progress.now in
     let mid = words_of c.loop-next.progress in
-    let after = words_of c.enter.new.progress in
-    let ahead = c.in-Some.ahead in
-    let found = subst (λ (r : Option Ahead). IfSome r (Found A g.P.Preference.good s c.loop-next.progress leaves c.args.start c.loop-next.next)) c.in-Some.is c.next_ahead.ensures.some in
-    let sum = word_sum A n c.args.start (get_or leaves ahead.place 0) in
-    let word = leaf_sum A L n leaves c.requires.words c.args.start c.requires.start ahead.place in
-    let passed = leaves_behind A L good laws n s.room base (shared_rows s) leaves c.args.start c.requires.start c.requires.words c.loop-next.next ahead.place found.0 before mid c.loop-next.invariant.offered.0
-    (λ k l m. (found.3 k l m).0) in
-    let one = offered_alias A L good laws n s.room base (shared_rows s) (shared_base A L n base known s.spans s.alike) (shared_law A L good laws n base known s.spans s.alike c.requires.kept.2)
-    sum ahead.candidate.word word found.2.1 mid after c.enter.ensures.0 in
+    let after = words_of c.offer.new.progress in
+    let place = c.in-Some.place in
+    let found = subst (λ (r : Option ℕ). IfSome r (Found A g.P.Preference.good s c.loop-next.progress leaves start c.loop-next.next)) c.in-Some.is c.next_ahead.ensures.some in
+    let value = leaf_value A L n leaves start c.requires.start.word words place c.add.result found.1 c.add.ensures in
+    let passed = leaves_behind A L good laws n s.room base shared leaves start c.requires.start.word words c.loop-next.next place found.0 before mid c.loop-next.invariant.offered.0
+    (λ k l m. (found.2 k l m).0) in
+    let one = subst (λ (x : ℕ). OfferedTo A g.P.Preference.good s (Coset A n shared x) mid c.offer.new.progress) value c.offer.ensures in
     record {
       within = omega (arith, found.1);
-      offered = (leaf_next A L good laws n s.room base (shared_rows s) leaves c.args.start c.requires.start c.requires.words ahead.place before mid after passed one, c.enter.ensures.1);
+      offered = (leaf_next A L good laws n s.room base shared leaves start c.requires.start.word words place before mid after passed one.0, one.1);
     }
 
 -- all leaves that are left change nothing
@@ -60,11 +68,11 @@ pub loop-next-preserved : goal.loop-next-preserved
 loop-next-preserved g c =
     let s = c.args.self.now in
     let leaves = c.args.leaves.now in
-    let none = subst (λ (r : Option Ahead). IfNone r (NoneAhead g.L.Levels.model g.P.Preference.good s c.loop-next.progress leaves c.args.start c.loop-next.next (length leaves))) c.in-None.is c.next_ahead.ensures.none in
+    let none = subst (λ (r : Option ℕ). IfNone r (NoneAhead g.L.Levels.model g.P.Preference.good s c.loop-next.progress leaves c.args.start c.loop-next.next (length leaves))) c.in-None.is c.next_ahead.ensures.none in
     record {
       within = omega arith;
       offered = (
-        leaves_behind g.L.Levels.model g.met.L.Levels.lawful (g.P.Preference.good s.preference.now) (g.met.P.Preference.lawful s.preference.now) s.factors s.room s.base.words.now (shared_rows s) leaves c.args.start c.requires.start c.requires.words
+        leaves_behind g.L.Levels.model g.met.L.Levels.lawful (g.P.Preference.good s.preference.now) (g.met.P.Preference.lawful s.preference.now) s.factors s.room s.base.words.now (shared_rows s) leaves c.args.start c.requires.start.word (λ i l. (c.requires.leaves i l).word)
             c.loop-next.next (length leaves) c.loop-next.invariant.within (words_of c.args.progress.now) (words_of c.loop-next.progress) c.loop-next.invariant.offered.0 (λ k l m. (none k l m).0),
         c.loop-next.invariant.offered.1,
       );
