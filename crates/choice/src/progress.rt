@@ -75,10 +75,13 @@ impl<'a, L: Levels, P: Preference<L>> Judge<'a, L, P> {
         ensures no { let order = order_of L.model P.good self.now in
             OnFalse result (NoLater order word candidate.now.word) }
     {
-        if candidate.tally.is_some() {
-            self.precedes(candidate, &Candidate::new(word))
-        } else {
+        if candidate.tally.is_none() {
             self.precedes_word(candidate.word, word)
+        } else if self.known.len() > SMALL {
+            self.precedes(candidate, &self.preference.ready(&self.base, word))
+        } else {
+            // of a small alias set the first aliases often decide
+            self.precedes(candidate, &Candidate::new(word))
         }
     }
 

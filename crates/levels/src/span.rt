@@ -84,13 +84,8 @@ impl<'a, L: Levels> Span<'a, L> {
             let all = aliases L.model n self.now.words.now start in
             result ≡ (legal L.model n start && any_shorter L.model bound all) }
     {
-        L::legal(self.factors, start) && shorter::<L>(
-            self.factors,
-            self.before,
-            self.sums.as_slice(),
-            start,
-            bound,
-        )
+        let n = self.factors;
+        L::legal(n, start) && shorter::<L>(n, self.before, self.sums.as_slice(), start, bound)
     }
 }
 

@@ -3,3 +3,4 @@ pub mod Tables
 pub mod Tallies
 pub mod Widths
 pub mod Aliases
+pub mod Apart

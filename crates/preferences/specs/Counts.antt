@@ -23,14 +23,14 @@ use Rattle.preferences.specs.Built.{no_more, length_counts, tallies, all_tallies
 use Rattle.preferences.specs.Verdicts.{of_order, verdict_of}
 
 -- lists that begin with the same count differ in the rest
-same_first : (x y : ℕ) (xs ys : List ℕ) → x ≡ y → no_more (x ∷ xs) (y ∷ ys) ≡ no_more xs ys
+pub same_first : (x y : ℕ) (xs ys : List ℕ) → x ≡ y → no_more (x ∷ xs) (y ∷ ys) ≡ no_more xs ys
 same_first x y xs ys e = ap (λ t. cond t (no_more xs ys) (nat_lt x y)) (eq-eqb x y e)
 
 -- the smaller first count is the better
-first_smaller : (x y : ℕ) (xs ys : List ℕ) → x < y → no_more (x ∷ xs) (y ∷ ys) ≡ true
+pub first_smaller : (x y : ℕ) (xs ys : List ℕ) → x < y → no_more (x ∷ xs) (y ∷ ys) ≡ true
 first_smaller x y xs ys l = ap (λ t. cond t (no_more xs ys) (nat_lt x y)) (ne_eqb x y (λ e. omega arith)) ∙ lt-ltb x y l
 
-first_larger : (x y : ℕ) (xs ys : List ℕ) → y < x → no_more (x ∷ xs) (y ∷ ys) ≡ false
+pub first_larger : (x y : ℕ) (xs ys : List ℕ) → y < x → no_more (x ∷ xs) (y ∷ ys) ≡ false
 first_larger x y xs ys l = ap (λ t. cond t (no_more xs ys) (nat_lt x y)) (ne_eqb x y (λ e. omega arith)) ∙ le-ltb x y (omega arith)
 
 -- of two lists one has no more

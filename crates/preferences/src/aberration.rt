@@ -1,15 +1,16 @@
 // Least aberration: at the smallest length where the alias sets differ in their number of words, fewer is better.
-ghost use Rattle.std.specs.Prelude.{◌≡◌, true, nat_le};
+ghost use Rattle.std.specs.Prelude.{◌≡◌, ℕ, ◌<◌, ◌≤◌, List, true, nat_le, slice_index};
 ghost use Rattle.levels.specs.Space.{Word};
 ghost use Rattle.levels.specs.Words.{word_length};
 ghost use Rattle.preferences.specs.Relation.{fair};
 ghost use Rattle.preferences.specs.Built.{least_aberration, no_more};
-ghost use Rattle.preferences.specs.Candidates.{IsReady};
+ghost use Rattle.preferences.specs.Candidates.{IsReady, IsTally};
 ghost use Rattle.preferences.specs.Verdicts.{verdict_of};
 ghost use Rattle.preferences.specs.Counts.{least_aberration_laws};
 
 use crate::candidate::Candidate;
 use crate::preference::{Preference, Verdict, smaller};
+use crate::sum::Sum;
 use levels::span::Tally;
 use levels::{Levels, Span};
 
@@ -32,6 +33,15 @@ impl<L: Levels> Preference<L> for LeastAberration {
             longer::<L>(a, b)
         } else {
             fewer_of_words(base, a, b)
+        }
+    }
+
+    #[inline(always)]
+    fn prefer_to_sum(&self, base: &Span<L>, word: u64, sum: Sum) -> Verdict {
+        if base.words().is_empty() {
+            longer::<L>(word, sum.places())
+        } else {
+            fewer_of_words(base, word, sum.word::<L>())
         }
     }
 
@@ -95,10 +105,42 @@ fn fewer_ready<L: Levels>(base: &Span<L>, a: &Candidate, b: &Candidate) -> Verdi
 {
     match (&a.tally, &b.tally) {
         (Some(first), Some(second)) => fewer(first, second),
-        (Some(first), None) => fewer(first, &base.tally(b.word)),
+        (Some(first), None) => fewer_than(base, first, b.word),
         (None, Some(second)) => fewer(&base.tally(a.word), second),
         (None, None) => fewer(&base.tally(a.word), &base.tally(b.word)),
     }
+}
+
+// Of a tally and a word, whose aliases are counted where none is shorter than those of the tally.
+fn fewer_than<L: Levels>(base: &Span<L>, first: &Tally, word: u64) -> Verdict
+    ensures { let n = base.now.factors in
+        let words = base.now.words.now in
+        fair L.model n words ≡ true →
+        Word L.model n word →
+        (second : List ℕ) →
+        IsTally L.model n words word second →
+        result ≡ verdict_of (no_more first.now second) (no_more second first.now) }
+{
+    if base.any_shorter(word, shortest_length(first)) {
+        Verdict::First
+    } else {
+        fewer(first, &base.tally(word))
+    }
+}
+
+// The smallest length of which there are some, or 33.
+fn shortest_length(tally: &Tally) -> u8
+    ensures few { result ≤ 33 }
+    ensures none { (i : ℕ) → i < result → slice_index tally.now i ≡ 0 }
+{
+    let mut length = 0;
+    for count in tally {
+        if *count > 0 {
+            break;
+        }
+        length += 1;
+    }
+    length
 }
 
 // Of two tallies, the one that is smaller where they first differ.

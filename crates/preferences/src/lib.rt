@@ -10,6 +10,7 @@ pub mod preference;
 pub mod ranked;
 pub mod reversed;
 pub mod shortest;
+pub mod sum;
 
 pub use aberration::LeastAberration;
 pub use candidate::Candidate;
@@ -18,3 +19,4 @@ pub use preference::{Preference, Scored, Verdict, fair};
 pub use ranked::FirstThenSecond;
 pub use reversed::{Longest, Reversed};
 pub use shortest::Shortest;
+pub use sum::Sum;

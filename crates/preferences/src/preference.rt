@@ -1,13 +1,14 @@
 // A preference as an interface: one question about two words.
 ghost use Rattle.std.specs.Prelude.{◌≡◌, ℕ, true, false, ◌&&◌, nat_le};
-ghost use Rattle.levels.specs.Words.{legal};
+ghost use Rattle.levels.specs.Words.{legal, word_sum};
 ghost use Rattle.levels.specs.Space.{Word};
 ghost use Rattle.preferences.specs.Relation.{Relation, PreferenceLaws, EqualAliases, all_legal, fair};
 ghost use Rattle.std.specs.Bool.{OnTrue};
-ghost use Rattle.preferences.specs.Candidates.{IsReady};
+ghost use Rattle.preferences.specs.Candidates.{IsReady, IsSum};
 ghost use Rattle.preferences.specs.Verdicts.{of_order, verdict, verdict_of, turned, Scores};
 
 use crate::candidate::Candidate;
+use crate::sum::Sum;
 use levels::{Levels, Span};
 use std::cmp::Ordering;
 
@@ -94,6 +95,20 @@ pub trait Preference<L: Levels> {
             (good self.now n words b.now.word a.now.word) }
     {
         self.prefer(base, a.word, b.word)
+    }
+
+    /// What `prefer` says of a word and a sum.
+    #[inline]
+    fn prefer_to_sum(&self, base: &Span<L>, word: u64, sum: Sum) -> Verdict
+        ensures { let n = base.now.factors in
+            let words = base.now.words.now in
+            let second = word_sum L.model n sum.first sum.second in
+            fair L.model n words ≡ true →
+            Word L.model n word →
+            IsSum L.model n sum →
+            result ≡ verdict_of (good self.now n words word second) (good self.now n words second word) }
+    {
+        self.prefer(base, word, sum.word::<L>())
     }
 
     /// Whether words of one alias set over the base list are known to be equal, so that a search may judge one word of each set.

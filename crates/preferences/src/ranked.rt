@@ -4,6 +4,7 @@ ghost use Rattle.preferences.specs.Laws.{first_then_second_laws};
 
 use crate::candidate::Candidate;
 use crate::preference::{Preference, Verdict};
+use crate::sum::Sum;
 use levels::{Levels, Span};
 
 #[derive(Clone, Copy)]
@@ -29,6 +30,14 @@ impl<L: Levels, P: Preference<L>, Q: Preference<L>> Preference<L> for FirstThenS
     fn prefer(&self, base: &Span<L>, a: u64, b: u64) -> Verdict {
         match self.first.prefer(base, a, b) {
             Verdict::Equal => self.second.prefer(base, a, b),
+            decided => decided,
+        }
+    }
+
+    #[inline]
+    fn prefer_to_sum(&self, base: &Span<L>, word: u64, sum: Sum) -> Verdict {
+        match self.first.prefer_to_sum(base, word, sum) {
+            Verdict::Equal => self.second.prefer_to_sum(base, word, sum),
             decided => decided,
         }
     }

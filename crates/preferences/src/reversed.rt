@@ -5,6 +5,7 @@ ghost use Rattle.preferences.specs.Laws.{reversed_laws};
 use crate::candidate::Candidate;
 use crate::preference::{Preference, Verdict};
 use crate::shortest::Shortest;
+use crate::sum::Sum;
 use levels::{Levels, Span};
 
 #[derive(Clone, Copy)]
@@ -26,6 +27,11 @@ impl<L: Levels, P: Preference<L>> Preference<L> for Reversed<P> {
     #[inline]
     fn prefer(&self, base: &Span<L>, a: u64, b: u64) -> Verdict {
         self.0.prefer(base, a, b).turned()
+    }
+
+    #[inline]
+    fn prefer_to_sum(&self, base: &Span<L>, word: u64, sum: Sum) -> Verdict {
+        self.0.prefer_to_sum(base, word, sum).turned()
     }
 
     fn ready(&self, base: &Span<L>, word: u64) -> Candidate {

@@ -4,6 +4,7 @@ ghost use Rattle.preferences.specs.Built.{shortest, length_score};
 ghost use Rattle.std.proofs.Common.{rules};
 
 use crate::preference::{Preference, Scored, Verdict, smaller};
+use crate::sum::Sum;
 use levels::{Levels, Span};
 
 #[derive(Clone, Copy)]
@@ -17,6 +18,11 @@ impl<L: Levels> Preference<L> for Shortest {
     #[inline]
     fn prefer(&self, _base: &Span<L>, a: u64, b: u64) -> Verdict {
         smaller(u64::from(L::length(a)), u64::from(L::length(b)))
+    }
+
+    #[inline]
+    fn prefer_to_sum(&self, _base: &Span<L>, word: u64, sum: Sum) -> Verdict {
+        smaller(u64::from(L::length(word)), u64::from(L::length(sum.places())))
     }
 }
 

@@ -1,7 +1,8 @@
 use Rattle.std.proofs.Common.{◌∙◌, Option, ℕ, List, subst, arith}
 use Rattle.std.specs.Prelude.{IfSome}
 use Rattle.preferences.specs.Candidates.{IsTally}
-use Rattle.preferences.proofs.Tallies.{tallies_verdict}
+use Rattle.preferences.specs.Built.{all_tallies}
+use Rattle.preferences.proofs.Tallies.{tallies_verdict, tally_of}
 use Rattle.preferences.proofs.aberration.fewer_ready.Goals as goal
 
 -- both tallies were kept
@@ -25,10 +26,12 @@ returns-in-Some-None g c fair first second ready_first ready_second =
     let a = c.args.a.now in
     let b = c.args.b.now in
     let kept = c.in-Some-None in
-    c.fewer-in-Some-None.ensures
-    ∙ tallies_verdict A g.met.L.Levels.lawful base.factors base.words.now a.word b.word kept.first c.tally.result fair first second
+    let counts = all_tallies A base.factors base.words.now b.word in
+    let tally = tally_of A base.factors base.words.now b.word in
+    c.fewer_than.ensures fair second counts tally
+    ∙ tallies_verdict A g.met.L.Levels.lawful base.factors base.words.now a.word b.word kept.first counts fair first second
     (subst (λ (t : Option (List ℕ)). IfSome t (IsTally A base.factors base.words.now a.word)) kept.is-0 ready_first)
-    (omega arith, c.tally.ensures)
+    tally
 
 -- that of the second word was kept
 pub returns-in-None-Some : goal.returns-in-None-Some
@@ -39,8 +42,8 @@ returns-in-None-Some g c fair first second ready_first ready_second =
     let b = c.args.b.now in
     let kept = c.in-None-Some in
     c.fewer-in-None-Some.ensures
-    ∙ tallies_verdict A g.met.L.Levels.lawful base.factors base.words.now a.word b.word c.tally-in-None-Some.result kept.second fair first second
-    (omega arith, c.tally-in-None-Some.ensures)
+    ∙ tallies_verdict A g.met.L.Levels.lawful base.factors base.words.now a.word b.word c.tally.result kept.second fair first second
+    (omega arith, c.tally.ensures)
     (subst (λ (t : Option (List ℕ)). IfSome t (IsTally A base.factors base.words.now b.word)) kept.is-1 ready_second)
 
 -- none was kept
