@@ -123,9 +123,11 @@ module _ (A : Arithmetic) (L : Lawful A) (good : Relation) (laws : PreferenceLaw
       let shared = cond alike known [] in
       let e = shared_echelon A n known alike echelon in
       let sum = word_sum A n start (get_or leaves k 0) in
-      let p = least_sum A L n shared e start (get_or leaves k 0) least (all k (omega arith)) in
-      (alias_behind A L good laws n room base shared (shared_base A L n base known spans alike) (shared_law A L good laws n base known spans alike equal)
-      ours kept full last sum sum is p.word (least_alias A L n shared e sum p) (behind k from to), rest)
+      let p = least_sum A L n shared e start (get_or leaves k 0) least (all k (omega arith)) in (
+        alias_behind A L good laws n room base shared (shared_base A L n base known spans alike) (shared_law A L good laws n base known spans alike equal)
+            ours kept full last sum sum is p.word (least_alias A L n shared e sum p) (behind k from to),
+        rest,
+      )
 
   -- no leaf is ahead
   pub none_ahead : (result : Option ℕ) → IfNone result (Behind (length leaves)) → IfNone result (Unchanged (length leaves))

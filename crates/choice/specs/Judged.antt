@@ -15,6 +15,8 @@ use Rattle.preferences.specs.declared.candidate.Candidate.{Candidate}
 use Rattle.choice.specs.declared.judge.Judge.{Judge}
 use Rattle.choice.specs.declared.best.Best.{Best}
 use Rattle.choice.specs.declared.progress.Progress.{Progress}
+use Rattle.choice.specs.declared.leaves.Leaves.{Leaves}
+use Rattle.choice.specs.Leaves.{AllOpposite, leaf_words}
 use Rattle.choice.specs.Chosen.{chosen_words}
 use Rattle.choice.specs.Search.{Below, Fits, Kept, Leaf, Least, LedAt, NoLater, Offered, keep, sieve}
 
@@ -37,6 +39,19 @@ IsFor A judge candidate = Word A judge.factors candidate.word × ReadyFor A judg
 -- a candidate of a word that a judge can be asked of
 abbrev pub KnownAs : {L P : Type 0} {levels : Ghosts L} → Arithmetic → Judge L P levels → ℕ → Candidate → Type 0
 KnownAs A judge w candidate = (candidate.word ≡ w) × ReadyFor A judge candidate
+
+-- a word that is the smallest code of those that a judge finds alike
+abbrev pub IsLeast : {L P : Type 0} {levels : Ghosts L} → Arithmetic → Judge L P levels → ℕ → Type 0
+IsLeast A judge w = Least A judge.factors (shared_rows judge) w
+
+-- so is each word of a list
+abbrev pub AllLeast : {L P : Type 0} {levels : Ghosts L} → Arithmetic → Judge L P levels → List ℕ → Type 0
+AllLeast A judge ws = (i : ℕ) → i < length ws → IsLeast A judge (slice_index ws i)
+
+-- leaves that are the smallest codes of those that a judge finds alike, and their opposites
+pub record AreLeaves {L P : Type 0} {levels : Ghosts L} (A : Arithmetic) (judge : Judge L P levels) (leaves : Leaves) : Type 0 where
+  pub least : AllLeast A judge (leaf_words leaves)
+  pub opposites : AllOpposite A judge.factors leaves
 
 -- a word put behind kept words, unless there is no room for it, or it is generated
 abbrev pub kept_by : {L P : Type 0} {levels : Ghosts L} → Arithmetic → Judge L P levels → List ℕ → ℕ → List ℕ
@@ -70,14 +85,6 @@ abbrev pub OfferedTo : {L P : Type 0} {levels : Ghosts L} → Arithmetic → (P 
 OfferedTo A good judge Among before after =
     Offered A judge.factors (order_of A good judge) judge.room judge.base.words.now Among before (words_of after)
     × Beside A judge after
-
--- a word that is the smallest code of those that a judge finds alike
-abbrev pub IsLeast : {L P : Type 0} {levels : Ghosts L} → Arithmetic → Judge L P levels → ℕ → Type 0
-IsLeast A judge w = Least A judge.factors (shared_rows judge) w
-
--- so is each word of a list
-abbrev pub AllLeast : {L P : Type 0} {levels : Ghosts L} → Arithmetic → Judge L P levels → List ℕ → Type 0
-AllLeast A judge ws = (i : ℕ) → i < length ws → IsLeast A judge (slice_index ws i)
 
 -- the sums of a start and the leaves from one place on to another stand behind a word
 abbrev pub AllBehind : {L P : Type 0} {levels : Ghosts L} → Arithmetic → (P → Relation) → Judge L P levels → ℕ → List ℕ → ℕ → ℕ → ℕ → Type 0

@@ -2,3 +2,4 @@ pub mod Choice
 pub mod Chosen
 pub mod Judged
 pub mod Search
+pub mod Leaves

@@ -2,6 +2,8 @@
 ghost use Rattle.std.specs.Prelude.{◌≡◌, ◌≤◌, ◌-◌, ◌++◌, length, take, min};
 ghost use Rattle.std.specs.Bool.{OnTrue, OnFalse};
 ghost use Rattle.levels.specs.Space.{Word};
+ghost use Rattle.levels.specs.Words.{word_sum};
+ghost use Rattle.preferences.specs.Candidates.{IsSum};
 ghost use Rattle.levels.specs.Generated.{generated};
 ghost use Rattle.levels.specs.Basis.{Echelon};
 ghost use Rattle.levels.specs.Rows.{basis_rows};
@@ -10,7 +12,7 @@ ghost use Rattle.choice.specs.Search.{NoLater, first_stands};
 
 use crate::chosen::MOST;
 use levels::{Basis, Levels, Span};
-use preferences::{Candidate, Preference, Verdict, fair};
+use preferences::{Candidate, Preference, Sum, Verdict, fair};
 
 // Judges words of so many factors by a preference, over a base list.
 #[derive(Drop)]
@@ -105,6 +107,24 @@ impl<'a, L: Levels, P: Preference<L>> Judge<'a, L, P> {
             Verdict::Equal
         };
         before_second(verdict, a, b)
+    }
+
+    // The same of a word and a sum.
+    #[inline]
+    pub(crate) fn precedes_sum(&self, a: u64, sum: Sum) -> bool
+        requires first { Word L.model self.now.factors a }
+        requires second { IsSum L.model self.now.factors sum }
+        ensures yes { let b = word_sum L.model self.now.factors sum.first sum.second in
+            OnTrue result (NoLater (order_of L.model P.good self.now) a b) }
+        ensures no { let b = word_sum L.model self.now.factors sum.first sum.second in
+            OnFalse result (NoLater (order_of L.model P.good self.now) b a) }
+    {
+        let verdict = if self.able {
+            self.preference.prefer_to_sum(&self.base, a, sum)
+        } else {
+            Verdict::Equal
+        };
+        before_second(verdict, a, sum.word::<L>())
     }
 
     // How many of all rows make words that are alike.

@@ -3,15 +3,19 @@ ghost use Rattle.std.specs.Prelude.{◌≡◌, ℕ, ◌<◌, ◌≤◌, [], leng
 ghost use Rattle.std.specs.Bool.{OnTrue, OnFalse};
 ghost use Rattle.std.specs.List.{All};
 ghost use Rattle.bounded.specs.Items.{items_of};
-ghost use Rattle.levels.specs.Space.{AllWords, Word};
+ghost use Rattle.levels.specs.Space.{Word};
+ghost use Rattle.levels.specs.Words.{word_sum};
+ghost use Rattle.preferences.specs.Candidates.{IsSum};
+ghost use Rattle.choice.specs.Leaves.{leaf_words};
 ghost use Rattle.choice.specs.Search.{Coset, NoLater};
 
 use crate::best::Best;
 use crate::chosen::MOST;
 use crate::judge::Judge;
+use crate::leaves::Leaves;
 use bounded::Bounded;
 use levels::Levels;
-use preferences::{Candidate, Preference};
+use preferences::{Candidate, Preference, Sum};
 
 // The alias sets of so few rows are small.
 pub(crate) const SMALL: usize = 4;
@@ -24,7 +28,7 @@ pub(crate) struct Progress {
 }
 
 impl<'a, L: Levels, P: Preference<L>> Judge<'a, L, P> {
-    ghost use Rattle.choice.specs.Judged.{AllBehind, AllLeast, Beside, FirstAhead, Found, IsFor, IsLeast, KeptBy, KnownAs, NoneAhead, OfferedTo, ReadyFor, order_of, shared_rows, words_of};
+    ghost use Rattle.choice.specs.Judged.{AllBehind, AreLeaves, Beside, FirstAhead, Found, IsFor, IsLeast, KeptBy, KnownAs, NoneAhead, OfferedTo, ReadyFor, order_of, shared_rows, words_of};
 
     // No words so far.
     pub(crate) fn start(&self) -> Progress
@@ -149,27 +153,45 @@ impl<'a, L: Levels, P: Preference<L>> Judge<'a, L, P> {
         }
     }
 
+    // Whether a candidate stands before a sum.
+    #[inline(always)]
+    fn precedes_next_sum(&self, candidate: &Candidate, sum: Sum) -> bool
+        requires candidate { IsFor L.model self.now candidate.now }
+        requires sum { IsSum L.model self.now.factors sum }
+        ensures yes { let word = word_sum L.model self.now.factors sum.first sum.second in
+            OnTrue result (NoLater (order_of L.model P.good self.now) candidate.now.word word) }
+        ensures no { let word = word_sum L.model self.now.factors sum.first sum.second in
+            OnFalse result (NoLater (order_of L.model P.good self.now) word candidate.now.word) }
+    {
+        if candidate.tally.is_none() {
+            self.precedes_sum(candidate.word, sum)
+        } else {
+            self.precedes_next(candidate, sum.word::<L>())
+        }
+    }
+
     // The first leaf, from a place on, whose sum with a start does not stand behind a candidate.
     #[inline(always)]
     fn first_ahead(
         &self,
         last: &Candidate,
-        leaves: &[u64],
+        leaves: &Leaves,
         first: usize,
         start: u64,
     ) -> Option<usize>
-        requires first { first ≤ length leaves.now }
+        requires first { first ≤ length (leaf_words leaves.now) }
         requires start { IsLeast L.model self.now start }
-        requires leaves { AllLeast L.model self.now leaves.now }
+        requires leaves { AreLeaves L.model self.now leaves.now }
         requires last { IsFor L.model self.now last.now }
         ensures some { let word = last.now.word in
-            IfSome result (FirstAhead L.model P.good self.now word leaves.now start first) }
-        ensures none { let end = length leaves.now in
+            let words = leaf_words leaves.now in
+            IfSome result (FirstAhead L.model P.good self.now word words start first) }
+        ensures none { let words = leaf_words leaves.now in
             let word = last.now.word in
-            IfNone result (AllBehind L.model P.good self.now word leaves.now start first end) }
+            IfNone result (AllBehind L.model P.good self.now word words start first (length words)) }
     {
         for place in first..leaves.len() {
-            if !self.precedes_next(last, L::add(start, leaves[place])) {
+            if !self.precedes_next_sum(last, leaves.sum(start, place)) {
                 return Some(place);
             }
         }
@@ -181,18 +203,19 @@ impl<'a, L: Levels, P: Preference<L>> Judge<'a, L, P> {
     pub(crate) fn next_ahead(
         &self,
         progress: &Progress,
-        leaves: &[u64],
+        leaves: &Leaves,
         first: usize,
         start: u64,
     ) -> Option<usize>
-        requires first { first < length leaves.now }
+        requires first { first < length (leaf_words leaves.now) }
         requires start { IsLeast L.model self.now start }
-        requires leaves { AllLeast L.model self.now leaves.now }
+        requires leaves { AreLeaves L.model self.now leaves.now }
         requires kept { KeptBy L.model P.good self.now progress.now }
-        ensures some { IfSome result (Found L.model P.good self.now progress.now leaves.now start first) }
-        ensures none { let end = length leaves.now in
+        ensures some { let words = leaf_words leaves.now in
+            IfSome result (Found L.model P.good self.now progress.now words start first) }
+        ensures none { let words = leaf_words leaves.now in
             let best = progress.now in
-            IfNone result (NoneAhead L.model P.good self.now best leaves.now start first end) }
+            IfNone result (NoneAhead L.model P.good self.now best words start first (length words)) }
     {
         let words = progress.best.words.words();
         if words.len() < self.room {

@@ -3,17 +3,19 @@ ghost use Rattle.std.specs.Prelude.{◌++◌, []};
 ghost use Rattle.std.specs.Bool.{OnTrue};
 ghost use Rattle.preferences.specs.Relation.{EqualAliases};
 ghost use Rattle.choice.specs.Chosen.{chosen_words};
+ghost use Rattle.choice.specs.Leaves.{leaf_words};
 ghost use Rattle.choice.specs.Search.{Coset, Led, Offered, OneOf, Spread};
 
 use crate::chosen::Chosen;
 use crate::judge::Judge;
+use crate::leaves::Leaves;
 use crate::progress::{Progress, SMALL};
 use levels::Levels;
 use levels::span::list_sums;
 use preferences::Preference;
 
 impl<'a, L: Levels, P: Preference<L>> Judge<'a, L, P> {
-    ghost use Rattle.choice.specs.Judged.{AllGenerated, AllLeast, FoundBy, IsLeast, KeptBy, OfferedTo, shared_rows, words_of};
+    ghost use Rattle.choice.specs.Judged.{AllGenerated, AllLeast, AreLeaves, FoundBy, IsLeast, KeptBy, OfferedTo, shared_rows, words_of};
 
     // The best words of all.
     pub(crate) fn best(&self) -> Chosen
@@ -42,10 +44,11 @@ impl<'a, L: Levels, P: Preference<L>> Judge<'a, L, P> {
         self.offer_all(&mut progress, rows);
         if self.room > 0 && from <= SMALL {
             let (before, sums) = list_sums::<L>(self.factors, &self.whole.rows()[from..]);
+            let leaves = Leaves::new::<L>(self.factors, sums);
             let mut start = 0;
             for row in before {
                 start = L::add(start, *row);
-                self.offer_leaves(&mut progress, sums.as_slice(), start);
+                self.offer_leaves(&mut progress, &leaves, start);
             }
         }
         progress
@@ -64,18 +67,18 @@ impl<'a, L: Levels, P: Preference<L>> Judge<'a, L, P> {
     }
 
     // Each sum of a start and a leaf is offered.
-    fn offer_leaves(&self, progress: &mut Progress, leaves: &[u64], start: u64)
+    fn offer_leaves(&self, progress: &mut Progress, leaves: &Leaves, start: u64)
         requires start { IsLeast L.model self.now start }
-        requires leaves { AllLeast L.model self.now leaves.now }
+        requires leaves { AreLeaves L.model self.now leaves.now }
         requires kept { KeptBy L.model P.good self.now progress.old }
-        ensures { let sums = Spread L.model self.now.factors (shared_rows self.now) [] leaves.now start in
+        ensures { let sums = Spread L.model self.now.factors (shared_rows self.now) [] (leaf_words leaves.now) start in
             OfferedTo L.model P.good self.now sums (words_of progress.old) progress.new }
     {
         let mut next = 0;
         while next < leaves.len() {
             match self.next_ahead(progress, leaves, next, start) {
                 Some(place) => {
-                    self.offer(progress, L::add(start, leaves[place]));
+                    self.offer(progress, leaves.sum(start, place).word::<L>());
                     next = place + 1;
                 }
                 None => next = leaves.len(),
@@ -84,13 +87,13 @@ impl<'a, L: Levels, P: Preference<L>> Judge<'a, L, P> {
     }
 
     // Each sum of a start, multiples of the words, and a leaf is offered.
-    fn offer_over_leaves(&self, progress: &mut Progress, words: &[u64], leaves: &[u64], start: u64)
+    fn offer_over_leaves(&self, progress: &mut Progress, words: &[u64], leaves: &Leaves, start: u64)
         requires start { IsLeast L.model self.now start }
         requires words { AllLeast L.model self.now words.now }
-        requires leaves { AllLeast L.model self.now leaves.now }
+        requires leaves { AreLeaves L.model self.now leaves.now }
         requires kept { KeptBy L.model P.good self.now progress.old }
         ensures { let shared = shared_rows self.now in
-            let sums = Spread L.model self.now.factors shared words.now leaves.now start in
+            let sums = Spread L.model self.now.factors shared words.now (leaf_words leaves.now) start in
             OfferedTo L.model P.good self.now sums (words_of progress.old) progress.new }
     {
         match words {
@@ -113,7 +116,8 @@ impl<'a, L: Levels, P: Preference<L>> Judge<'a, L, P> {
             OfferedTo L.model P.good self.now sums (words_of progress.old) progress.new }
     {
         let (before, sums) = list_sums::<L>(self.factors, rows);
-        self.offer_over_leaves(progress, before, sums.as_slice(), start);
+        let leaves = Leaves::new::<L>(self.factors, sums);
+        self.offer_over_leaves(progress, before, &leaves, start);
     }
 
     // Each word that is led by a word is offered: a multiple of it, other than by 0, plus what the rows generate.

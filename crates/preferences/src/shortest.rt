@@ -22,7 +22,10 @@ impl<L: Levels> Preference<L> for Shortest {
 
     #[inline]
     fn prefer_to_sum(&self, _base: &Span<L>, word: u64, sum: Sum) -> Verdict {
-        smaller(u64::from(L::length(word)), u64::from(L::length(sum.places())))
+        smaller(
+            u64::from(L::length(word)),
+            u64::from(L::length(sum.places())),
+        )
     }
 }
 

@@ -8,6 +8,7 @@ use Rattle.choice.specs.Search.{Least}
 use Rattle.choice.proofs.Least.{least_sum, least_multiple, rest_least, shared_echelon}
 use Rattle.choice.proofs.Sums.{next_start}
 use Rattle.choice.proofs.Offers.{none_below, spread_more, words_head}
+use Rattle.choice.specs.Leaves.{leaf_words}
 use Rattle.choice.proofs.judge.Judge.+offer_over_leaves.Goals as goal
 
 -- at first, none
@@ -17,7 +18,7 @@ loop-level-init g t c =
     let s = c.args.self.now in
     let words = c.args.words.now in (
       none_below A g.met.L.Levels.lawful (g.P.Preference.good s.preference.now) (g.met.P.Preference.lawful s.preference.now) s.factors s.room s.base.words.now
-          (λ l. Spread A s.factors (shared_rows s) (take (length words - 1) (drop 1 words)) c.args.leaves.now (word_sum A s.factors c.args.start (word_multiple A s.factors l (get_or words 0 0)))) (words_of c.args.progress.now) c.requires.kept.0,
+          (λ l. Spread A s.factors (shared_rows s) (take (length words - 1) (drop 1 words)) (leaf_words c.args.leaves.now) (word_sum A s.factors c.args.start (word_multiple A s.factors l (get_or words 0 0)))) (words_of c.args.progress.now) c.requires.kept.0,
       c.requires.kept.1,
     )
 
@@ -45,7 +46,7 @@ offer_over_leaves-requires g t c κs within =
     let kept = c.loop-level.invariant.0.kept in
     let fits = c.loop-level.invariant.1 in
     let law = c.requires.kept.2 in
-    let leaves = c.requires.leaves in
+    let leaves = c.requires.leaves.least in
     search (rules, least, rest, leaves)
 
 -- one level more
@@ -61,7 +62,7 @@ loop-level-preserved g t c =
     let level = c.loop-level.level in
     let value : c.add-next.result ≡ word_sum A n start (word_multiple A n level w) =
     next_start A L n level w start c.product.result c.add-next.result c.requires.start.word c.product.ensures c.add-next.ensures in (
-      spread_more A L (g.P.Preference.good s.preference.now) (g.met.P.Preference.lawful s.preference.now) n s.room s.base.words.now (shared_rows s) c.args.leaves.now start c.requires.start.word (λ i l. (c.requires.leaves i l).word)
+      spread_more A L (g.P.Preference.good s.preference.now) (g.met.P.Preference.lawful s.preference.now) n s.room s.base.words.now (shared_rows s) (leaf_words c.args.leaves.now) start c.requires.start.word (λ i l. (c.requires.leaves.least i l).word)
           level w c.add-next.result value (take (length words - 1) (drop 1 words)) (words_of c.args.progress.now) (words_of c.loop-level.progress) (words_of c.offer_over_leaves.new.progress) c.loop-level.invariant.0 c.offer_over_leaves.ensures.0,
       c.offer_over_leaves.ensures.1,
     )
@@ -71,7 +72,7 @@ pub returns-in-empty : goal.returns-in-empty
 returns-in-empty g t c =
     let s = c.args.self.now in
     let none : c.args.words.now ≡ [] = nil_from_length c.args.words.now (let l = c.in-empty.len_below in omega arith) in
-    subst (λ (ws : List ℕ). OfferedTo g.L.Levels.model g.P.Preference.good s (Spread g.L.Levels.model s.factors (shared_rows s) ws c.args.leaves.now c.args.start) (words_of c.args.progress.now) c.offer_leaves.new.progress) (sym none) c.offer_leaves.ensures
+    subst (λ (ws : List ℕ). OfferedTo g.L.Levels.model g.P.Preference.good s (Spread g.L.Levels.model s.factors (shared_rows s) ws (leaf_words c.args.leaves.now) c.args.start) (words_of c.args.progress.now) c.offer_leaves.new.progress) (sym none) c.offer_leaves.ensures
 
 -- in the end, all levels
 pub returns-after-loop-level : goal.returns-after-loop-level
@@ -81,6 +82,6 @@ returns-after-loop-level g t c =
     let words = c.args.words.now in
     let all : c.loop-level.level ≡ A.s = omega (arith, c.loop-level.auto.level-end, g.met.L.Levels.levels) in
     let whole = words_head words c.in-len1-up.len_at_least in
-    subst (λ (ws : List ℕ). OfferedTo A g.P.Preference.good s (Spread A s.factors (shared_rows s) ws c.args.leaves.now c.args.start) (words_of c.args.progress.now) c.loop-level.progress) whole
-    (subst (λ (k : ℕ). OfferedTo A g.P.Preference.good s (Below k (λ l. Spread A s.factors (shared_rows s) (take (length words - 1) (drop 1 words)) c.args.leaves.now (word_sum A s.factors c.args.start (word_multiple A s.factors l (get_or words 0 0))))) (words_of c.args.progress.now) c.loop-level.progress) all
+    subst (λ (ws : List ℕ). OfferedTo A g.P.Preference.good s (Spread A s.factors (shared_rows s) ws (leaf_words c.args.leaves.now) c.args.start) (words_of c.args.progress.now) c.loop-level.progress) whole
+    (subst (λ (k : ℕ). OfferedTo A g.P.Preference.good s (Below k (λ l. Spread A s.factors (shared_rows s) (take (length words - 1) (drop 1 words)) (leaf_words c.args.leaves.now) (word_sum A s.factors c.args.start (word_multiple A s.factors l (get_or words 0 0))))) (words_of c.args.progress.now) c.loop-level.progress) all
     c.loop-level.invariant)

@@ -3,6 +3,9 @@ use Rattle.std.proofs.Common.{ℕ, List, ap, ◌≡◌, ◌++◌, length, drop, 
 use Rattle.levels.specs.Rows.{basis_rows}
 use Rattle.levels.specs.Generated.{combinations}
 use Rattle.levels.proofs.Reduced.{space_at}
+use Rattle.levels.specs.Space.{AllWords}
+use Rattle.levels.proofs.Leaves.{combinations_words}
+use Rattle.choice.specs.Leaves.{leaf_words}
 use Rattle.choice.specs.Search.{Coset, Spread}
 use Rattle.choice.specs.Judged.{order_of, OfferedTo, shared_rows, words_of}
 use Rattle.choice.proofs.Greedy.{judged_order}
@@ -18,7 +21,14 @@ offer_over_leaves-requires-clause-words g c =
     let s = c.args.self.now in
     front_least A g.met.L.Levels.lawful s.factors (shared_rows s) (shared_echelon A s.factors (basis_rows s.known) s.alike s.echelon) c.args.rows.now c.list_sums.result.0.now c.list_sums.ensures.words c.requires.rows
 
--- the leaves are sums of rows
+-- the sums of rows are words
+pub new-leaves-requires-clause-words : goal.new-leaves-requires-clause-words
+new-leaves-requires-clause-words g c =
+    let A = g.L.Levels.model in
+    let n = c.args.self.now.factors in
+    subst (AllWords A n) (sym c.list_sums.ensures.sums) (combinations_words A g.met.L.Levels.lawful n (drop (length c.list_sums.result.0.now) c.args.rows.now) c.args.start c.requires.start.word)
+
+-- the leaves are these
 pub offer_over_leaves-requires-clause-leaves : goal.offer_over_leaves-requires-clause-leaves
 offer_over_leaves-requires-clause-leaves g c =
     let A = g.L.Levels.model in
@@ -28,8 +38,11 @@ offer_over_leaves-requires-clause-leaves g c =
     let before = c.list_sums.result.0.now in
     let shared = shared_rows s in
     let echelon = shared_echelon A s.factors (basis_rows s.known) s.alike s.echelon in
-    least_sums A L s.factors shared echelon (drop (length before) rows) c.as_slice.result.now (drop_least A L s.factors shared echelon rows (length before) c.requires.rows) c.args.start c.requires.start.word
-    (c.as_slice.ensures ∙ c.list_sums.ensures.sums)
+    record {
+      least = least_sums A L s.factors shared echelon (drop (length before) rows) (leaf_words c.new-leaves.result) (drop_least A L s.factors shared echelon rows (length before) c.requires.rows) c.args.start c.requires.start.word
+          (c.new-leaves.ensures.words ∙ c.list_sums.ensures.sums);
+      opposites = c.new-leaves.ensures.opposites;
+    }
 
 -- the sums with all leaves are the sums with multiples of the rows
 pub returns : goal.returns
@@ -41,8 +54,8 @@ returns g c =
     let start = c.args.start in
     let before = c.list_sums.result.0.now in
     let behind = drop (length before) c.args.rows.now in
-    let leaves = c.as_slice.result.now in
-    let all : leaves ≡ combinations A n behind = c.as_slice.ensures ∙ c.list_sums.ensures.sums in
+    let leaves = leaf_words c.new-leaves.result in
+    let all : leaves ≡ combinations A n behind = c.new-leaves.ensures.words ∙ c.list_sums.ensures.sums in
     let V = space_at A L n start c.requires.start.word in
     let good = g.P.Preference.good s.preference.now in
     let base = s.base.words.now in

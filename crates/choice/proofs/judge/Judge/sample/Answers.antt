@@ -8,6 +8,7 @@ use Rattle.levels.proofs.Generation.{generates_word}
 use Rattle.levels.proofs.Leaves.{combinations_words}
 use Rattle.levels.proofs.Reduced.{space_at}
 use Rattle.levels.proofs.Space.{vector_space}
+use Rattle.choice.specs.Leaves.{leaf_words}
 use Rattle.choice.specs.Search.{Least, OneOf, Spread}
 use Rattle.choice.proofs.Least.{drop_least, front_least, least_leaf, least_sums, part_least, shared_echelon}
 use Rattle.choice.specs.Judged.{shared_rows, words_of}
@@ -110,8 +111,22 @@ offer_leaves-requires-clause-leaves g c =
     part_least A L n (basis_rows s.whole) shared k k s.all c.shared-from.ensures.front (omega arith) part count (ap (λ (us : List ℕ). take count (drop k us)) c.rows-then-from-le-SMALL.ensures) in
     let i = c.loop-row.row-index in
     let row = front_least A L n shared echelon part before c.list_sums.ensures.words least i c.loop-row-test.true in
-    least_sums A L n shared echelon (drop (length before) part) c.as_slice.result.now (drop_least A L n shared echelon part (length before) least)
-    (get_or before i 0) row.word (c.as_slice.ensures ∙ c.list_sums.ensures.sums)
+    record {
+      least = least_sums A L n shared echelon (drop (length before) part) (leaf_words c.new-leaves.result) (drop_least A L n shared echelon part (length before) least)
+          (get_or before i 0) row.word (c.new-leaves.ensures.words ∙ c.list_sums.ensures.sums);
+      opposites = c.new-leaves.ensures.opposites;
+    }
+
+-- the listed sums are words
+pub new-leaves-requires-clause-words : goal.new-leaves-requires-clause-words
+new-leaves-requires-clause-words g c =
+    let A = g.L.Levels.model in
+    let s = c.args.self.now in
+    let rows = c.rows-then-from-le-SMALL.result.now in
+    let part = take (length rows - c.shared-from.result) (drop c.shared-from.result rows) in
+    let some : 0 < length (basis_rows s.whole) = omega (arith, c.if-self-gt0.true, s.space) in
+    subst (AllWords A s.factors) (sym c.list_sums.ensures.sums)
+    (combinations_words A g.met.L.Levels.lawful s.factors (drop (length c.list_sums.result.0.now) part) (get_or (basis_rows s.whole) 0 0) (s.all.words 0 some))
 
 -- one start more
 pub loop-row-preserved : goal.loop-row-preserved
@@ -130,15 +145,15 @@ loop-row-preserved g c =
     let split = c.list_sums.ensures.words in
     let i = c.loop-row.row-index in
     let inside = shared_generates A L n known whole s.alike s.front in
-    let all : c.as_slice.result.now ≡ combinations A n (drop (length before) all_rows) = c.as_slice.ensures ∙ c.list_sums.ensures.sums in
+    let all : leaf_words c.new-leaves.result ≡ combinations A n (drop (length before) all_rows) = c.new-leaves.ensures.words ∙ c.list_sums.ensures.sums in
     let next = start_generated A L n whole s.all.words k all_rows before is split c.loop-row.start i c.add-start.result c.loop-row-test.true c.loop-row.invariant.start c.add-start.ensures in
-    let words : AllWords A n c.as_slice.result.now = subst (AllWords A n) (sym all)
+    let words : AllWords A n (leaf_words c.new-leaves.result) = subst (AllWords A n) (sym all)
     (combinations_words A L n (drop (length before) all_rows) (get_or before i 0) (first_word A L n whole s.all.words k all_rows before is split i c.loop-row-test.true)) in
     record {
       smallest = (offer_leaves-requires-clause-start g c.before).smallest;
       start = next.1;
       kept = (c.offer_leaves.ensures.0.kept, c.offer_leaves.ensures.1, c.requires);
-      generated = all_generated A L n whole (Spread A n (shared_rows s) [] c.as_slice.result.now c.add-start.result)
-          (leaf_generated A L n whole (shared_rows s) inside c.as_slice.result.now c.add-start.result next.0 words next.1 (last_generated A L n whole s.all.words k all_rows before is split c.as_slice.result.now all))
+      generated = all_generated A L n whole (Spread A n (shared_rows s) [] (leaf_words c.new-leaves.result) c.add-start.result)
+          (leaf_generated A L n whole (shared_rows s) inside (leaf_words c.new-leaves.result) c.add-start.result next.0 words next.1 (last_generated A L n whole s.all.words k all_rows before is split (leaf_words c.new-leaves.result) all))
           (words_of c.loop-row.progress) (words_of c.offer_leaves.new.progress) c.loop-row.invariant.generated c.offer_leaves.ensures.0.from;
     }
