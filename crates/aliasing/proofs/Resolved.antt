@@ -1,5 +1,5 @@
 -- The law of a resolution decides it, and there is none exactly where code 0 alone is generated.
-use Rattle.std.proofs.Common.{◌≡◌, ℕ, zero, suc, ◌+◌, ◌-◌, ◌*◌, ◌/◌, ◌<◌, ◌≤◌, Bool, true, eqb, List, [], ◌∷◌, get_or, Some, None, Option, sym, refl, ap, ◌∙◌, subst, inl, inr, mul-zero, add-one, arith}
+use Rattle.std.proofs.Common.{◌≡◌, ℕ, zero, suc, ◌+◌, ◌-◌, ◌*◌, ◌/◌, ◌<◌, ◌≤◌, ◌↔◌, Bool, true, true≢false, eqb, List, [], ◌∷◌, get_or, Some, None, Option, IsNone, is_some, sym, refl, ap, ◌∙◌, subst, inl, inr, mul-zero, add-one, arith}
 use native.Mathlib.Nat.{zero-div}
 use Rattle.std.proofs.lemmas.Bool.{cases_eq, cases_lt, cases_order, cond-true, cond-false, cond_both, eq-eqb, eqb-true, eqb-false, ne_eqb}
 use Rattle.levels.specs.Arithmetic.{Arithmetic, Lawful}
@@ -88,10 +88,11 @@ module _ (A : Arithmetic) (L : Lawful A) (n : ℕ) (ws : List ℕ) where
   ])
 
   -- there is no resolution exactly where code 0 alone is generated
-  pub law_absent : (r : Option (ℕ × ℕ)) → ResolutionLaw A n (generated A n ws) r → (r ≡ None → generated A n ws ≡ 0 ∷ []) × (generated A n ws ≡ 0 ∷ [] → r ≡ None)
-  law_absent r h = (
-    (λ e. counts_none (subst (ResolutionLaw A n (generated A n ws)) e h)),
-    (λ e. zero_alone A n r (subst (λ set. ResolutionLaw A n set r) e h)),
+  pub law_absent : (r : Option (ℕ × ℕ)) → ResolutionLaw A n (generated A n ws) r → (IsNone r ↔ (generated A n ws ≡ 0 ∷ []))
+  law_absent None h = ((λ e. counts_none h), (λ e. refl))
+  law_absent (Some p) h = (
+    (λ e. absurd (true≢false e)),
+    (λ e. ap is_some (zero_alone A n (Some p) (subst (λ set. ResolutionLaw A n set (Some p)) e h))),
   )
 
   -- xs has the counts of lengths 1 to 32

@@ -21,7 +21,7 @@ abbrev pub pairs_from : ℕ → ℕ → List ℕ
 pairs_from i zero = []
 pairs_from i (suc k) = pairs_with i (suc i) k ++ pairs_from (suc i) k
 
--- the pairs of n factors, in the order (1,2), (1,3), up to (n − 1,n)
+-- all pairs of n factors: those of factor 1 with each later one, then those of factor 2, and so on
 abbrev pub pairs : ℕ → List ℕ
 pairs n = pairs_from 0 n
 

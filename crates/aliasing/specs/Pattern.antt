@@ -29,7 +29,7 @@ resolution A n set = first_positive 1 (pattern A n set)
 abbrev pub Divides : Arithmetic → List ℕ → Type 0
 Divides A set = (i : ℕ) → 1 ≤ i → of_length A i set ≡ (A.s - 1) * count A set i
 
--- (l, c) is the least length with a positive count, and that count
+-- l is the smallest length whose count is above 0, and c is that count
 pub record LeastPositive (A : Arithmetic) (n : ℕ) (set : List ℕ) (l c : ℕ) : Type 0 where
   pub low : 1 ≤ l
   pub high : l ≤ n

@@ -12,12 +12,12 @@ hits (r ∷ rs) (d ∷ ds) = cond (r == 1 && not (d == 0)) 1 0 + hits rs ds
 abbrev pub letters_at_one : ℕ → ℕ → ℕ → ℕ
 letters_at_one n run w = hits (digits two n run) (digits two n w)
 
--- every word of a list has an even number of its letters at level 1
+-- in a run, the letters at level 1 are even in number in each word of a list
 abbrev pub all_even : ℕ → List ℕ → ℕ → Bool
 all_even n [] run = true
 all_even n (w ∷ ws) run = letters_at_one n run w % 2 == 0 && all_even n ws run
 
--- a code is a run under a list of words: it is legal, and every word has an even number of its letters at level 1
+-- a run under a list of words: a legal code in which the letters at level 1 of each word are even in number
 abbrev pub is_run : ℕ → List ℕ → ℕ → Bool
 is_run n ws run = legal two n run && all_even n ws run
 

@@ -21,7 +21,7 @@ const BUCKETS: usize = 1024;
 
 const SPREAD: u64 = 0x9e37_79b9_7f4a_7c15;
 
-/// One byte for each pair of factors, in the order (1,2), (1,3), up to (n − 1,n): 1 where the pair is clear, else 0.
+/// A byte for every pair: factor 1 with each later factor, then factor 2, and so on. It is 1 where the pair is clear, else 0.
 #[derive(Clone, Copy)]
 pub struct ClearPairs {
     bytes: Bounded<u8, PAIRS>,

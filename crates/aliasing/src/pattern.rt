@@ -1,5 +1,5 @@
 // The wordlength pattern of the words that a list generates, and their resolution.
-ghost use Rattle.std.specs.Prelude.{◌≡◌, ℕ, suc, ◌-◌, ◌^◌, ◌<◌, ◌≤◌, min, [], ◌∷◌, length, take, None, slice_index};
+ghost use Rattle.std.specs.Prelude.{◌≡◌, ℕ, suc, ◌-◌, ◌^◌, ◌<◌, ◌≤◌, min, [], ◌∷◌, length, take, slice_index, IsNone, ◌↔◌};
 ghost use Rattle.levels.specs.Generated.{generated};
 ghost use Rattle.aliasing.specs.Pattern.{count, pattern as Pattern, resolution as Resolution, Divides, ResolutionLaw};
 
@@ -36,11 +36,14 @@ fn fitting(amount: u64) -> u32
     u32::try_from(amount).unwrap_or(u32::MAX)
 }
 
-/// The least length with a positive count, and that count.
+/// The least length with a positive count, and that count; absent exactly where the words generate code 0 alone.
 pub fn resolution<L: Levels>(n: u8, words: &[u64]) -> Option<(u32, u32)>
-    ensures least { length words.now ≤ 16 → result ≡ Resolution L.Levels.model n (generated L.Levels.model n words.now) }
-    ensures law { length words.now ≤ 16 → ResolutionLaw L.Levels.model n (generated L.Levels.model n words.now) result }
-    ensures absent { length words.now ≤ 16 → (result ≡ None → generated L.Levels.model n words.now ≡ 0 ∷ []) × (generated L.Levels.model n words.now ≡ 0 ∷ [] → result ≡ None) }
+    ensures least { let all = generated L.model n words.now in
+        length words.now ≤ 16 → result ≡ Resolution L.model n all }
+    ensures law { let all = generated L.model n words.now in
+        length words.now ≤ 16 → ResolutionLaw L.model n all result }
+    ensures absent { let all = generated L.model n words.now in
+        length words.now ≤ 16 → (IsNone result ↔ (all ≡ 0 ∷ [])) }
 {
     let counts = pattern::<L>(n, words);
     for (place, count) in counts.iter().enumerate() {

@@ -1,4 +1,4 @@
-// What a plan holds: n factors from 1 to 32, and at most 16 words in all.
+// What a plan holds: 1 to 32 factors, and two lists of words, together at most 16.
 ghost use Rattle.std.specs.Prelude.{◌≡◌, ◌+◌, ◌<◌, ◌≤◌, [], ◌∷◌, ◌++◌, length, take, drop};
 ghost use Rattle.bounded.specs.Items.{items_of};
 ghost use Rattle.contents.specs.List.{listed};

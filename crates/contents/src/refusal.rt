@@ -11,9 +11,9 @@ pub enum Refusal {
     Factors = 1,
     /// a code is illegal
     Illegal = 2,
-    /// the word is generated already
+    /// the words of the plan generate the word
     Generated = 3,
-    /// more words than the limit
+    /// more words than a plan may have
     Limit = 4,
     /// there is no word at this place
     Place = 5,

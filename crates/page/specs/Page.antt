@@ -35,8 +35,7 @@ abbrev pub resolution_fields : Option (ℕ × ℕ) → List ℕ
 resolution_fields None = codes " none"
 resolution_fields (Some r) = fields decimal (r.0 ∷ r.1 ∷ [])
 
--- the page: levels, factors and counts of words; resolution; pattern; shortest defining generators; least-aberration
--- block generators; with two levels the number of clear pairs
+-- the page: what the plan holds, what its defining words generate, the generators of both sides, clear pairs with two levels
 abbrev pub page : Arithmetic → Content → List ℕ
 page A p =
     line (codes "plan") (fields decimal (A.s ∷ p.factors ∷ length p.defining ∷ length p.block ∷ []))

@@ -1,4 +1,5 @@
 pub mod Choosing
 pub mod Filling
+pub mod Resolving
 pub mod Running
 pub mod Twos

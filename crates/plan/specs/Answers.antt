@@ -43,7 +43,7 @@ alias_member A w m p = cond (legal A p.factors w) (entry (alias_set A p.factors 
 abbrev pub alias_set_of : Arithmetic → ℕ → Content → Result (List ℕ) Refusal
 alias_set_of A w p = if legal A p.factors w then Ok (alias_set A p.factors p.defining w) else Err Illegal
 
--- with two levels, the runs, in ascending code: every word that the defining words generate has an even number of its letters at level 1
+-- with two levels, the runs in ascending code: those under all words that the defining words generate
 abbrev pub runs_of : Content → List ℕ
 runs_of p = runs_upto p.factors (generated two p.factors p.defining) (2 ^ p.factors)
 

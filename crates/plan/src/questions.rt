@@ -1,5 +1,5 @@
 // What is read off the words of a settled plan.
-ghost use Rattle.std.specs.Prelude.{◌≡◌, ℕ, ◌-◌, ◌^◌, ◌≤◌, length};
+ghost use Rattle.std.specs.Prelude.{◌≡◌, ℕ, ◌-◌, ◌^◌, ◌≤◌, ◌↔◌, [], length, IsNone};
 ghost use Rattle.levels.specs.Arithmetic.{two};
 ghost use Rattle.levels.specs.Alias.{alias_set};
 ghost use Rattle.levels.specs.Generated.{generated};
@@ -28,10 +28,12 @@ impl<L: Levels> SettledPlan<L> {
         store(&counts[..usize::from(n)], memory)
     }
 
-    /// The least length of which the defining words generate words other than code 0, and their count; absent without
-    /// defining words.
+    /// The least length of which the defining words generate words other than code 0, and their count; absent exactly
+    /// where there are no defining words.
     pub fn resolution(&self) -> Option<(u32, u32)>
-        ensures { result ≡ resolution L.Levels.model self.now.factors (defined L.Levels.model self.now) }
+        ensures value { let p = self.now in
+            result ≡ resolution L.model p.factors (defined L.model p) }
+        ensures absent { IsNone result ↔ (self.now.defining ≡ []) }
     {
         aliasing::pattern::resolution::<L>(self.factors(), self.list(Side::Defining))
     }

@@ -2,7 +2,7 @@
 use contents::{Refusal, Side};
 use levels::TwoLevels;
 use plan::{OpenPlan, SettledPlan};
-use preferences::{Cheapest, Longest, Reversed, Shortest};
+use preferences::Cheapest;
 use std::fmt::Display;
 use std::io;
 
@@ -24,7 +24,7 @@ fn acted(rt: &HostRuntime, call: &str, answer: Result<(), Refusal>) -> io::Resul
 }
 
 // A settled plan of two levels and n factors, with the words that are admitted.
-fn settled(n: u8, defining: &[u64], block: &[u64]) -> SettledPlan<TwoLevels> {
+pub(crate) fn settled(n: u8, defining: &[u64], block: &[u64]) -> SettledPlan<TwoLevels> {
     let mut plan = OpenPlan::<TwoLevels>::new();
     let _ = plan.start(n);
     for word in defining {
@@ -85,19 +85,9 @@ pub(crate) fn aliases(rt: &HostRuntime) -> io::Result<()> {
     outcome(rt, "alias of 256", plan.alias_member(256, 0))
 }
 
-// Generators by other preferences than the page's, with scores.
-pub(crate) fn generators(rt: &HostRuntime) -> io::Result<()> {
-    let longest = Reversed(Shortest);
+// The cheapest generators, with their scores.
+pub(crate) fn cheapest(rt: &HostRuntime) -> io::Result<()> {
     let mut words = [0; 16];
-    let plan = settled(6, &[], &[3, 12, 21, 37]);
-    outcome(
-        rt,
-        "longest",
-        plan.choose::<Longest>(Side::Block, &longest, &mut words),
-    )?;
-    for word in words.iter().take(4) {
-        println!(rt; "word {word}")?;
-    }
     let mut costs = [0; 32];
     costs[..3].copy_from_slice(&[1, 5, 1]);
     let mut scores = [0; 16];

@@ -1,12 +1,13 @@
-// Plan files, calls and preferences with what they give: printed, and compared with the file `stdout` of this crate.
+// Plan files, calls, preferences and worked examples with what they give: printed, and compared with the file `stdout` of this crate.
 #![tactic(auto)]
 
-use calls::{aliases, generators, limits, three_factors};
+use calls::{aliases, cheapest, limits, three_factors};
 use history::{PAGE, trial_page};
 use std::io;
 use std::io::Write;
 
 mod calls;
+mod cheng_wu_wu;
 mod lists;
 mod verdicts;
 
@@ -157,7 +158,8 @@ fn main(rt: HostRuntime) -> io::Result<()> {
     limits(&rt)?;
     three_factors(&rt)?;
     aliases(&rt)?;
-    generators(&rt)?;
+    cheapest(&rt)?;
     lists::lists(&rt)?;
-    verdicts::verdicts(&rt)
+    verdicts::verdicts(&rt)?;
+    cheng_wu_wu::examples(&rt)
 }

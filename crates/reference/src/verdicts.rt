@@ -12,18 +12,8 @@ fn compared(rt: &HostRuntime, a: u64, b: u64) -> io::Result<()> {
     }
 }
 
-// Pairs of words, the last with an illegal code.
+// Of two words the second, and neither of an illegal code and a word.
 pub(crate) fn verdicts(rt: &HostRuntime) -> io::Result<()> {
-    for (a, b) in [
-        (9, 10),
-        (10, 12),
-        (15, 12),
-        (6, 9),
-        (6, 5),
-        (3, 5),
-        (256, 9),
-    ] {
-        compared(rt, a, b)?;
-    }
-    Ok(())
+    compared(rt, 6, 9)?;
+    compared(rt, 256, 9)
 }
