@@ -1,5 +1,5 @@
 pub mod Points
 pub mod Tables
 pub mod Tallies
-pub mod Widths
+pub mod Masks
 pub mod Aliases
