@@ -1,10 +1,10 @@
 -- Masks of factors: what they cost is what the word costs.
-use Rattle.std.proofs.Common.{◌≡◌, ℕ, zero, suc, ◌+◌, ◌*◌, ◌/◌, ◌%◌, ◌^◌, ◌<◌, ◌≤◌, cond, eqb, ◌⊎◌, List, [], ◌∷◌, map, length, get_or, take, drop, sym, refl, ap, ap₂, ◌∙◌, subst, inl, inr, pow-suc, suc-add, zero-add, mul-zero, mul-suc, add_comm, div-one, true, false, eq-eqb, arith}
-use lib.Bits.{bit_and, bit_or, and_block, or_block, and_mask, and_zero_r, and_mod, or_mod, and_shr, or_shr, and_le_r}
+use Rattle.std.proofs.Common.{◌≡◌, ℕ, zero, suc, ◌+◌, ◌*◌, ◌/◌, ◌%◌, ◌^◌, ◌<◌, ◌≤◌, cond, eqb, List, [], ◌∷◌, map, length, get_or, take, drop, sym, refl, ap, ap₂, ◌∙◌, inl, inr, pow-suc, suc-add, zero-add, mul-zero, mul-suc, add_comm, div-one, true, false, eq-eqb, arith}
+use lib.Bits.{bit_and, bit_or, and_block, or_block, and_mask, and_zero_r, and_mod, or_mod, and_shr, or_shr}
 use Rattle.std.proofs.lemmas.Bool.{cond_both, cond-true, cond-false, cases_Bool, cases_lt}
-use Rattle.std.proofs.lemmas.Nat.{pow_pos, shr_split, shr-shr, mod_below}
+use Rattle.std.proofs.lemmas.Nat.{shr_split, shr-shr, mod_below}
 use Rattle.std.proofs.lemmas.List.{length-map, length-take, length-drop, take-map, drop-map, get_or-take, get_or-drop, ext_get_or}
-use Rattle.levels.specs.Arithmetic.{Arithmetic, Lawful, two, three}
+use Rattle.levels.specs.Arithmetic.{Arithmetic, two, three}
 use Rattle.levels.specs.Words.{digits}
 use Rattle.levels.specs.Computed.{all₁, all₂}
 use Rattle.levels.proofs.Digits.{digits_length}
@@ -12,7 +12,7 @@ use Rattle.levels.proofs.Masks.{repeated}
 use Rattle.preferences.specs.Built.{cost}
 use Rattle.preferences.specs.Sums.{by_turns, mask_bits, mask_order, used}
 use Rattle.preferences.proofs.Points.{no_costs}
-use Rattle.preferences.proofs.Tables.{few_bits, low_digits, same_digits, cost_split}
+use Rattle.preferences.proofs.Tables.{low_digits, same_digits}
 
 -- 1 for a digit that is not 0
 abbrev pub flag : ℕ → ℕ
@@ -218,14 +218,14 @@ turns costs turned lc lt at =
     let ly : length ys ≡ 16 = omega (arith, length-drop 16 costs) in
     let all : length (by_turns xs ys) ≡ 32 = omega (arith, turns_length xs ys (omega arith)) in
     ext_get_or 0 turned (by_turns xs ys) (omega arith) (λ k l.
-      let place = turns_at xs ys k (omega arith) (omega arith) in
-      at k (omega arith) ∙ elim (cases_lt (k % 2) 1) [
-        | inl even ↦
-            let none : k % 2 ≡ 0 = omega arith in
-            let here : k / 2 + k % 2 * 16 ≡ k / 2 = omega arith in
-            ap (λ i. get_or costs i 0) here ∙ sym (place ∙ cond-true (eqb (k % 2) 0) (get_or xs (k / 2) 0) (get_or ys (k / 2) 0) (eq-eqb (k % 2) 0 none) ∙ get_or-take 16 costs (k / 2) 0 (omega arith))
-        | inr odd ↦
-            let one : k % 2 ≡ 1 = omega arith in
-            let here : k / 2 + k % 2 * 16 ≡ 16 + k / 2 = omega arith in
-            ap (λ i. get_or costs i 0) here ∙ sym (place ∙ cond-false (eqb (k % 2) 0) (get_or xs (k / 2) 0) (get_or ys (k / 2) 0) (ap (λ p. eqb p 0) one) ∙ get_or-drop 16 costs (k / 2) 0)
-      ])
+    let place = turns_at xs ys k (omega arith) (omega arith) in
+    at k (omega arith) ∙ elim (cases_lt (k % 2) 1) [
+      | inl even ↦
+          let none : k % 2 ≡ 0 = omega arith in
+          let here : k / 2 + k % 2 * 16 ≡ k / 2 = omega arith in
+          ap (λ i. get_or costs i 0) here ∙ sym (place ∙ cond-true (eqb (k % 2) 0) (get_or xs (k / 2) 0) (get_or ys (k / 2) 0) (eq-eqb (k % 2) 0 none) ∙ get_or-take 16 costs (k / 2) 0 (omega arith))
+      | inr odd ↦
+          let one : k % 2 ≡ 1 = omega arith in
+          let here : k / 2 + k % 2 * 16 ≡ 16 + k / 2 = omega arith in
+          ap (λ i. get_or costs i 0) here ∙ sym (place ∙ cond-false (eqb (k % 2) 0) (get_or xs (k / 2) 0) (get_or ys (k / 2) 0) (ap (λ p. eqb p 0) one) ∙ get_or-drop 16 costs (k / 2) 0)
+    ])

@@ -1,5 +1,5 @@
 -- Costs are added up part by part, by tables of sums.
-use Rattle.std.proofs.Common.{◌≡◌, ℕ, zero, suc, ◌+◌, ◌-◌, ◌*◌, ◌/◌, ◌%◌, ◌^◌, ◌<◌, ◌≤◌, cond, eqb, ◌⊎◌, List, [], ◌∷◌, length, get_or, set, drop, replicate, sym, refl, ap, ap₂, ◌∙◌, ◌≢◌, subst, inl, inr, add_comm, pow-suc, zero-add, mul-zero, mul-suc, div-one, arith, get_or-set_other, get_or-set_same}
+use Rattle.std.proofs.Common.{◌≡◌, ℕ, zero, suc, ◌+◌, ◌-◌, ◌*◌, ◌/◌, ◌%◌, ◌^◌, ◌<◌, ◌≤◌, eqb, ◌⊎◌, List, [], ◌∷◌, length, get_or, set, drop, replicate, sym, refl, ap, ap₂, ◌∙◌, ◌≢◌, subst, inl, inr, add_comm, pow-suc, zero-add, mul-zero, mul-suc, div-one, arith, get_or-set_other, get_or-set_same}
 use Rattle.std.proofs.lemmas.Bool.{cases_Bool, cases_lt, cases_eq, cond-true, cond-false}
 use Rattle.std.proofs.Math.Nat.{zero-mod, zero-div, div-eq_of_lt, pow-le-pow_right}
 use Rattle.std.proofs.Math.Pow.{mod-mod-pow}

@@ -10,7 +10,7 @@ by_turns [] ys = []
 by_turns (x ∷ xs) [] = []
 by_turns (x ∷ xs) (y ∷ ys) = x ∷ y ∷ by_turns xs ys
 
--- the order of the factors in a mask: 1, 2, 3, .. where a digit takes one bit, and 1, 17, 2, 18, .. where it takes two
+-- the order of factors in a mask: 1, 2, 3, .. where a digit takes one bit, 1, 17, 2, 18, .. where it takes two
 abbrev pub mask_order : Arithmetic → List ℕ → List ℕ
 mask_order A xs = cond (A.bits == 1) xs (by_turns (take 16 xs) (drop 16 xs))
 
@@ -22,6 +22,8 @@ used A w = map (λ d. cond (d == 0) 0 1) (digits A 32 w)
 unfoldable pub mask_bits : ℕ → List ℕ
 mask_bits m = digits two 32 m
 
--- at place 64 k + y stands what the factors from bit 6 k of a mask on cost whose bits are set in y
+-- at place 64 k + y stands what part k of a mask, its bits 6 k to 6 k + 5, costs where its value is y
 abbrev pub AreSums : List ℕ → List ℕ → Type 0
-AreSums costs sums = (k y : ℕ) → k < 6 → y < 64 → slice_index sums (64 * k + y) ≡ cost (drop (6 * k) costs) (digits two 6 y)
+AreSums costs sums =
+    (k y : ℕ) → k < 6 → y < 64 →
+    slice_index sums (64 * k + y) ≡ cost (drop (6 * k) costs) (digits two 6 y)

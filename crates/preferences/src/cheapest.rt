@@ -12,9 +12,11 @@ use levels::{Levels, Span, ThreeLevels, TwoLevels};
 // No word has more factors.
 const FACTORS: usize = 32;
 
-// A mask of factors has 6 parts, of 64 values each.
+// A mask of factors has 6 parts, of 6 bits each.
 const PARTS: usize = 6;
-const SUMS: usize = 384;
+
+// A part has 64 values.
+const SUMS: usize = 64 * PARTS;
 
 // The low bit of each digit of two bits.
 const LOW: u64 = 0x5555_5555_5555_5555;

@@ -1,4 +1,4 @@
-use Rattle.std.proofs.Common.{◌<◌, arith}
+use Rattle.std.proofs.Common.{arith}
 use Rattle.preferences.proofs.Masks.{turns}
 use Rattle.preferences.proofs.cheapest.by_turns.Goals as goal
 

@@ -1,4 +1,4 @@
-use Rattle.std.proofs.Common.{◌≡◌, inl, inr, arith}
+use Rattle.std.proofs.Common.{inl, inr, arith}
 use Rattle.preferences.proofs.Tables.{few_bits}
 use Rattle.preferences.proofs.Masks.{mask_of_one, mask_of_two}
 use Rattle.preferences.proofs.cheapest.mask_of.Goals as goal

@@ -1,4 +1,4 @@
-use Rattle.std.proofs.Common.{◌≡◌, ◌+◌, ◌*◌, ◌^◌, ◌<◌, ◌≤◌, get_or, set, ap, sym, subst, arith}
+use Rattle.std.proofs.Common.{◌+◌, ◌*◌, ◌^◌, ◌<◌, get_or, set, ap, sym, subst, arith}
 use Rattle.preferences.proofs.Tables.{SumsUpto, sums_start, sums_next, few_values, sum_most}
 use Rattle.preferences.proofs.cheapest.sums_of.Goals as goal
 

@@ -1,4 +1,4 @@
-use Rattle.std.proofs.Common.{◌≡◌, ℕ, ◌*◌, ◌/◌, ◌^◌, List, Bor, length, inl, inr, sym, subst, ap, ◌∙◌, arith}
+use Rattle.std.proofs.Common.{◌≡◌, ℕ, ◌*◌, ◌/◌, ◌^◌, List, Bor, length, inl, inr, sym, subst, arith}
 use Rattle.levels.specs.Arithmetic.{two, three}
 use Rattle.levels.specs.Words.{digits}
 use Rattle.preferences.specs.Sums.{AreSums, mask_order}
