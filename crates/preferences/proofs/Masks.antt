@@ -69,36 +69,32 @@ cost_halves (suc n) [] (d ∷ ds) = rw (no_costs (drop n ds)) (omega arith)
 cost_halves (suc n) (c ∷ costs) (d ∷ ds) = omega (arith, cost_halves n costs ds)
 
 -- in the order of a mask the cost is the same
-cost_order : (A : Arithmetic) (costs ds : List ℕ) → length costs ≡ 32 → length ds ≡ 32 → cost (mask_order A costs) (mask_order A ds) ≡ cost costs ds
-cost_order A costs ds lc ld =
+cost_order : (bits : ℕ) (costs ds : List ℕ) → length costs ≡ 32 → length ds ≡ 32 → cost (mask_order bits costs) (mask_order bits ds) ≡ cost costs ds
+cost_order bits costs ds lc ld =
     let turns = cost_turns (take 16 costs) (drop 16 costs) (take 16 ds) (drop 16 ds)
     (omega (arith, length-take 16 costs, length-drop 16 costs)) (omega (arith, length-take 16 costs, length-take 16 ds)) (omega (arith, length-take 16 costs, length-drop 16 ds))
     ∙ sym (cost_halves 16 costs ds) in
-    elim (cases_Bool (eqb A.bits 1)) [
+    elim (cases_Bool (eqb bits 1)) [
       | inl t ↦ rw t refl
       | inr f ↦ rw f turns
     ]
 
 -- as many costs stand in the order of a mask
-pub order_length : (A : Arithmetic) (costs : List ℕ) → length costs ≡ 32 → length (mask_order A costs) ≡ 32
-order_length A costs size =
+pub order_length : (bits : ℕ) (costs : List ℕ) → length costs ≡ 32 → length (mask_order bits costs) ≡ 32
+order_length bits costs size =
     let halves : length (by_turns (take 16 costs) (drop 16 costs)) ≡ 32 =
     omega (arith, turns_length (take 16 costs) (drop 16 costs) (omega (arith, length-take 16 costs, length-drop 16 costs)), length-take 16 costs, length-drop 16 costs) in
-    elim (cases_Bool (eqb A.bits 1)) [
+    elim (cases_Bool (eqb bits 1)) [
       | inl t ↦ rw t size
       | inr f ↦ rw f halves
     ]
 
--- the order depends on the width of digits alone
-pub same_order : (A B : Arithmetic) (costs : List ℕ) → A.bits ≡ B.bits → mask_order A costs ≡ mask_order B costs
-same_order A B costs e = ap (λ b. cond (eqb b 1) costs (by_turns (take 16 costs) (drop 16 costs))) e
-
 -- a mask costs what its word does
-pub cost_mask : (A : Arithmetic) (costs : List ℕ) (w m : ℕ) → length costs ≡ 32 → mask_bits m ≡ mask_order A (used A w) → cost (mask_order A costs) (digits two 32 m) ≡ cost costs (digits A 32 w)
+pub cost_mask : (A : Arithmetic) (costs : List ℕ) (w m : ℕ) → length costs ≡ 32 → mask_bits m ≡ mask_order A.bits (used A w) → cost (mask_order A.bits costs) (digits two 32 m) ≡ cost costs (digits A 32 w)
 unfolding used mask_bits
 cost_mask A costs w m size e =
-    ap (cost (mask_order A costs)) e
-    ∙ cost_order A costs (map flag (digits A 32 w)) size (length-map (digits A 32 w) flag ∙ digits_length A 32 w)
+    ap (cost (mask_order A.bits costs)) e
+    ∙ cost_order A.bits costs (map flag (digits A 32 w)) size (length-map (digits A 32 w) flag ∙ digits_length A 32 w)
     ∙ cost_flags costs (digits A 32 w)
 
 -- a digit of one bit is its own flag
@@ -171,7 +167,7 @@ digits_drop A (suc n) m w =
     rw suc-add (digits_drop A n m (w / 2 ^ A.bits) ∙ ap (digits A m) (shr-shr w A.bits (A.bits * n) ∙ ap (λ k. w / 2 ^ k) e))
 
 -- the mask of a code of digits of one bit is the code
-pub mask_of_one : (A : Arithmetic) (w : ℕ) → A.bits ≡ 1 → mask_bits w ≡ mask_order A (used A w)
+pub mask_of_one : (A : Arithmetic) (w : ℕ) → A.bits ≡ 1 → mask_bits w ≡ mask_order A.bits (used A w)
 unfolding used mask_bits
 mask_of_one A w e =
     let one : eqb A.bits 1 ≡ true = eq-eqb A.bits 1 e in
@@ -195,7 +191,7 @@ mask_halves any f g low high lf lg =
 
 -- the mask of a code of digits of two bits
 pub mask_of_two : (A : Arithmetic) (w : ℕ) → A.bits ≡ 2 →
-    mask_bits (bit_or (bit_and (bit_or w (w / 2)) 0x5555_5555_5555_5555) (bit_and (bit_or w (w / 2)) 0x5555_5555_5555_5555 / 2147483648)) ≡ mask_order A (used A w)
+    mask_bits (bit_or (bit_and (bit_or w (w / 2)) 0x5555_5555_5555_5555) (bit_and (bit_or w (w / 2)) 0x5555_5555_5555_5555 / 2147483648)) ≡ mask_order A.bits (used A w)
 unfolding used mask_bits
 mask_of_two A w e =
     let any = bit_and (bit_or w (w / 2)) 0x5555_5555_5555_5555 in
@@ -207,7 +203,7 @@ mask_of_two A w e =
     let second : map flag (digits three 16 (w / 2 ^ 32)) ≡ drop 16 (map flag flagged) = sym (drop-map flag 16 flagged ∙ ap (map flag) (digits_drop three 16 16 w)) in
     let two_bits : eqb A.bits 1 ≡ false = ap (λ b. eqb b 1) e in
     sym (low_digits two 32 m) ∙ ap (digits two 32) mask ∙ bits_by_turns 16 w (w / 2 ^ 32) ∙ ap₂ by_turns first second
-    ∙ sym (ap (mask_order A) (ap (map flag) (same_digits A three e 32 w)) ∙ cond-false (eqb A.bits 1) (map flag flagged) (by_turns (take 16 (map flag flagged)) (drop 16 (map flag flagged))) two_bits)
+    ∙ sym (ap (mask_order A.bits) (ap (map flag) (same_digits A three e 32 w)) ∙ cond-false (eqb A.bits 1) (map flag flagged) (by_turns (take 16 (map flag flagged)) (drop 16 (map flag flagged))) two_bits)
 
 -- costs by turns, one by one
 pub turns : (costs turned : List ℕ) → length costs ≡ 32 → length turned ≡ 32 → ((k : ℕ) → k < 32 → get_or turned k 0 ≡ get_or costs (k / 2 + k % 2 * 16) 0) → turned ≡ by_turns (take 16 costs) (drop 16 costs)

@@ -11,8 +11,8 @@ by_turns (x ∷ xs) [] = []
 by_turns (x ∷ xs) (y ∷ ys) = x ∷ y ∷ by_turns xs ys
 
 -- the order of factors in a mask: 1, 2, 3, .. where a digit takes one bit, 1, 17, 2, 18, .. where it takes two
-abbrev pub mask_order : Arithmetic → List ℕ → List ℕ
-mask_order A xs = cond (A.bits == 1) xs (by_turns (take 16 xs) (drop 16 xs))
+abbrev pub mask_order : ℕ → List ℕ → List ℕ
+mask_order bits xs = cond (bits == 1) xs (by_turns (take 16 xs) (drop 16 xs))
 
 -- 1 for each of 32 factors whose digit in a word is not 0, and 0 for the others
 unfoldable pub used : Arithmetic → ℕ → List ℕ

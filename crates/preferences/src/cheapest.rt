@@ -1,6 +1,5 @@
 // The cheaper word is better, by the costs of its factors.
 ghost use Rattle.std.specs.Prelude.{◌≡◌, ℕ, ◌<◌, slice_index};
-ghost use Rattle.levels.specs.Arithmetic.{two, three};
 ghost use Rattle.levels.specs.Words.{digits};
 ghost use Rattle.preferences.specs.Built.{cheapest, cost, cost_score};
 ghost use Rattle.preferences.specs.Sums.{AreSums, mask_bits, mask_order, used};
@@ -25,11 +24,12 @@ const LOW: u64 = 0x5555_5555_5555_5555;
 #[derive(Clone, Copy)]
 pub struct Cheapest {
     costs: [u16; FACTORS],
-    of_two: [u32; SUMS],
-    of_three: [u32; SUMS],
+    // The sums where a digit takes one bit, and where it takes two.
+    one_bit: [u32; SUMS],
+    two_bits: [u32; SUMS],
     ghost small: { (i : ℕ) → slice_index costs i < 65536 },
-    ghost two: { AreSums (mask_order two costs) of_two },
-    ghost three: { AreSums (mask_order three costs) of_three },
+    ghost one: { AreSums (mask_order 1 costs) one_bit },
+    ghost two: { AreSums (mask_order 2 costs) two_bits },
 }
 
 impl Cheapest {
@@ -40,8 +40,8 @@ impl Cheapest {
     {
         Cheapest {
             costs,
-            of_two: sums_of(&costs),
-            of_three: sums_of(&by_turns(&costs)),
+            one_bit: sums_of(&costs),
+            two_bits: sums_of(&by_turns(&costs)),
         }
     }
 
@@ -51,9 +51,9 @@ impl Cheapest {
         ensures { result ≡ cost self.now.costs (digits L.model 32 word) }
     {
         let sums = if L::BITS == 1 {
-            &self.of_two
+            &self.one_bit
         } else {
-            &self.of_three
+            &self.two_bits
         };
         let mask = mask_of::<L>(word);
         let mut total = 0;
@@ -87,10 +87,10 @@ impl<L: Levels> Scored<L> for Cheapest {
     }
 }
 
-// The mask of the factors whose digit is not 0: the code itself where a digit takes one bit.
+// The mask of the factors whose digit is not 0: the code itself with one bit a digit, else by bits 2 i and 2 i + 1 factors i + 1 and i + 17.
 #[inline]
 fn mask_of<L: Levels>(word: u64) -> u64
-    ensures { mask_bits result ≡ mask_order L.model (used L.model word) }
+    ensures { mask_bits result ≡ mask_order L.model.bits (used L.model word) }
 {
     if L::BITS == 1 {
         word
@@ -102,7 +102,7 @@ fn mask_of<L: Levels>(word: u64) -> u64
 
 // The costs in the order of a mask of digits of two bits.
 fn by_turns(costs: &[u16; FACTORS]) -> [u16; FACTORS]
-    ensures { result ≡ mask_order three costs.now }
+    ensures { result ≡ mask_order 2 costs.now }
 {
     let mut turned = [0; FACTORS];
     for i in 0..FACTORS {
