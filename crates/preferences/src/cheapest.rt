@@ -6,7 +6,7 @@ ghost use Rattle.preferences.specs.Sums.{AreSums, mask_bits, mask_order, used};
 ghost use Rattle.std.proofs.Common.{rules};
 
 use crate::preference::{Preference, Scored, Verdict, smaller};
-use levels::{Levels, Span, ThreeLevels, TwoLevels};
+use levels::{Levels, Span};
 
 // No word has more factors.
 const FACTORS: usize = 32;
