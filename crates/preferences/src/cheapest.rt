@@ -87,7 +87,7 @@ impl<L: Levels> Scored<L> for Cheapest {
     }
 }
 
-// The mask of the factors whose digit is not 0: the code itself with one bit a digit, else by bits 2 i and 2 i + 1 factors i + 1 and i + 17.
+// The mask, in `mask_order`, of the factors whose digit is not 0: the code itself with one bit a digit.
 #[inline]
 fn mask_of<L: Levels>(word: u64) -> u64
     ensures { mask_bits result ≡ mask_order L.model.bits (used L.model word) }
