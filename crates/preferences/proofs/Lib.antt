@@ -1,6 +1,6 @@
 pub mod Points
 pub mod Tables
 pub mod Tallies
-pub mod Widths
+pub mod Masks
 pub mod Aliases
 pub mod Apart

@@ -1,17 +1,17 @@
--- Costs are added up part by part: of the nibbles of a code, and of its bytes.
-use Rattle.std.proofs.Common.{◌≡◌, ℕ, zero, suc, ◌+◌, ◌-◌, ◌*◌, ◌/◌, ◌%◌, ◌^◌, ◌<◌, ◌≤◌, cond, eqb, ◌⊎◌, List, [], ◌∷◌, length, get_or, take, drop, sym, refl, ap, ◌∙◌, subst, inl, inr, add_comm, zero-add, mul-zero, mul-suc, div-one, arith}
-use Rattle.std.proofs.lemmas.Bool.{cases_Bool, cond-true, cond-false}
-use Rattle.std.proofs.Math.Nat.{zero-mod, zero-div, div-eq_of_lt}
+-- Costs are added up part by part, by tables of sums.
+use Rattle.std.proofs.Common.{◌≡◌, ℕ, zero, suc, ◌+◌, ◌-◌, ◌*◌, ◌/◌, ◌%◌, ◌^◌, ◌<◌, ◌≤◌, eqb, ◌⊎◌, List, [], ◌∷◌, length, get_or, set, drop, replicate, sym, refl, ap, ap₂, ◌∙◌, ◌≢◌, subst, inl, inr, add_comm, pow-suc, zero-add, mul-zero, mul-suc, div-one, arith, get_or-set_other, get_or-set_same}
+use Rattle.std.proofs.lemmas.Bool.{cases_Bool, cases_lt, cases_eq, cond-true, cond-false}
+use Rattle.std.proofs.Math.Nat.{zero-mod, zero-div, div-eq_of_lt, pow-le-pow_right}
 use Rattle.std.proofs.Math.Pow.{mod-mod-pow}
 use Rattle.std.specs.Prelude.{bit_and}
-use Rattle.std.proofs.lemmas.Nat.{and_mask, pow_pos, shr-shr, shr_high, mod_below, mod-pow-add}
-use Rattle.std.proofs.lemmas.List.{drop-drop, get_or-drop, length-drop}
-use Rattle.levels.specs.Arithmetic.{Arithmetic, Lawful}
+use Rattle.std.proofs.lemmas.Nat.{and_mask, pow_pos, shr-shr, shr_high, mod_low, mod_below, mod-pow-add}
+use Rattle.std.proofs.lemmas.List.{drop-drop, drop_all, get_or-drop, get_or-replicate, get_or_past, length-set, length-drop, length-replicate}
+use Rattle.levels.specs.Arithmetic.{Arithmetic, Lawful, two}
 use Rattle.levels.specs.Words.{digits, legal}
 use Rattle.levels.specs.Space.{Word}
 use Rattle.levels.proofs.Digits.{word_legal}
 use Rattle.preferences.specs.Built.{cost, cost_score}
-use Rattle.preferences.specs.Sums.{AreOfBytes, AreOfNibbles}
+use Rattle.preferences.specs.Sums.{AreSums}
 use Rattle.preferences.proofs.Points.{no_costs, cost_most}
 
 module _ (A : Arithmetic) where
@@ -21,10 +21,6 @@ module _ (A : Arithmetic) where
     | inl t ↦ inl (lawful.width ∙ cond-true (eqb A.s 2) 1 2 t)
     | inr f ↦ inr (lawful.width ∙ cond-false (eqb A.s 2) 1 2 f)
   ]
-
-  -- the digits of a nibble take four bits
-  pub nibble : Lawful A → A.bits * (4 / A.bits) ≡ 4
-  nibble lawful = elim (few_bits lawful) [ inl e ↦ ap (λ b. b * (4 / b)) e | inr e ↦ ap (λ b. b * (4 / b)) e ]
 
   -- code 0 costs nothing
   pub cost_none : (costs : List ℕ) (m : ℕ) → cost costs (digits A m 0) ≡ 0
@@ -62,33 +58,6 @@ module _ (A : Arithmetic) where
       let last = ap (λ v. cost (drop j costs) (digits A m v)) below in
       ap (λ k. cost (c ∷ costs) (digits A k w)) e ∙ omega (arith, more, last)
 
-  -- what two nibbles cost, and what the digits behind them do
-  pub byte_split : (costs : List ℕ) (first p m v : ℕ) → A.bits * p ≡ 4 →
-      cost (drop first costs) (digits A (p + (p + m)) v) ≡
-      cost (drop first costs) (digits A p (v % 16)) + cost (drop (first + p) costs) (digits A p (v / 16 % 16)) + cost (drop (first + p + p) costs) (digits A m (v / 256))
-  byte_split costs first p m v e =
-      let one = cost_split (drop first costs) p (p + m) v in
-      let two = cost_split (drop (first + p) costs) p m (v / 16) in
-      let at : v / 2 ^ (A.bits * p) ≡ v / 16 = ap (λ k. v / 2 ^ k) e in
-      let at2 : v / 16 / 2 ^ (A.bits * p) ≡ v / 256 = ap (λ k. v / 16 / 2 ^ k) e ∙ shr-shr v 4 4 in
-      let low : digits A p (v % 16) ≡ digits A p v = ap (λ k. digits A p (v % 2 ^ k)) (sym e) ∙ low_digits p v in
-      let high : digits A p (v / 16 % 16) ≡ digits A p (v / 16) = ap (λ k. digits A p (v / 16 % 2 ^ k)) (sym e) ∙ low_digits p (v / 16) in
-      let d1 : drop p (drop first costs) ≡ drop (first + p) costs = drop-drop p first costs in
-      let d2 : drop p (drop (first + p) costs) ≡ drop (first + p + p) costs = drop-drop p (first + p) costs in
-      let a = ap (λ ds. cost (drop first costs) ds) low in
-      let b = ap (λ ds. cost (drop (first + p) costs) ds) high in
-      let f = ap (λ x. cost (drop p (drop first costs)) (digits A (p + m) x)) at in
-      let g = ap (λ cs. cost cs (digits A (p + m) (v / 16))) d1 in
-      let h = ap (λ x. cost (drop p (drop (first + p) costs)) (digits A m x)) at2 in
-      let i = ap (λ cs. cost cs (digits A m (v / 256))) d2 in
-      omega (arith, one, two, a, b, f, g, h, i)
-
-  -- as many costs are enough as there are digits
-  pub cost_take : (costs : List ℕ) (n w : ℕ) → cost (take n costs) (digits A (length (take n costs)) w) ≡ cost costs (digits A n w)
-  cost_take costs zero w = refl
-  cost_take [] (suc n) w = refl
-  cost_take (c ∷ costs) (suc n) w = ap (λ x. cond (eqb (w % 2 ^ A.bits) 0) 0 c + x) (cost_take costs n (w / 2 ^ A.bits))
-
   -- a word of n factors costs what its 32 digits do
   pub cost_word : (costs : List ℕ) (n w : ℕ) → Word A n w → cost costs (digits A n w) ≡ cost costs (digits A 32 w)
   cost_word costs n w word =
@@ -102,68 +71,6 @@ module _ (A : Arithmetic) where
       let all = ap (λ k. cost costs (digits A k w)) e in
       omega (arith, split, rest, all)
 
--- a nibble costs at most what 32 factors do
-pub nibble_most : (A : Arithmetic) (costs sums : List ℕ) → length costs ≡ 32 → ((i : ℕ) → get_or costs i 0 < 65536) → AreOfNibbles A costs sums →
-    (q y : ℕ) → q < 8 * A.bits → y < 16 → get_or sums (16 * q + y) 0 ≤ 2097120
-nibble_most A costs sums size small of q y lq ly =
-    let first = 4 / A.bits * q in
-    let most = cost_most (drop first costs) (digits A (4 / A.bits) y) (λ i. subst (λ x. x < 65536) (sym (get_or-drop first costs i 0)) (small (first + i))) in
-    omega (arith, of q y lq ly, most, length-drop first costs)
-
--- the sums for bytes below a place are of those for nibbles
-abbrev pub BytesUpto : ℕ → List ℕ → List ℕ → Type 0
-BytesUpto end nibbles sums =
-    (k high low : ℕ) → high < 16 → low < 16 → 256 * k + 16 * high + low < end →
-    get_or sums (256 * k + 16 * high + low) 0 ≡ get_or nibbles (32 * k + low) 0 + get_or nibbles (32 * k + 16 + high) 0
-
--- a sum of costs is at most that of 32 factors
-pub total_most : (A : Arithmetic) (costs : List ℕ) (w : ℕ) → length costs ≡ 32 → ((i : ℕ) → get_or costs i 0 < 65536) → cost costs (digits A 32 w) ≤ 2097120
-total_most A costs w size small = omega (arith, cost_most costs (digits A 32 w) small, size)
-
--- before the first byte the total is 0
-pub total_start : (A : Arithmetic) (costs : List ℕ) (w : ℕ) → 0 + cost (drop (4 / A.bits * 0) costs) (digits A (32 - 4 / A.bits * 0) (w / 1)) ≡ cost costs (digits A 32 w)
-total_start A costs w =
-    let z : 4 / A.bits * 0 ≡ 0 = mul-zero (4 / A.bits) in
-    let e = ap (λ k. cost (drop k costs) (digits A (32 - k) (w / 1))) z in
-    let f : w / 1 ≡ w = div-one w in
-    let h = ap (λ x. cost costs (digits A 32 x)) f in
-    omega (arith, e, h)
-
--- one byte more
-pub total_turn : (A : Arithmetic) → Lawful A → (costs sums : List ℕ) → AreOfBytes A costs sums → (w k total : ℕ) → k < 4 * A.bits →
-    total + cost (drop (4 / A.bits * (2 * k)) costs) (digits A (32 - 4 / A.bits * (2 * k)) (w / 2 ^ (8 * k))) ≡ cost costs (digits A 32 w) →
-    total + get_or sums (256 * k + bit_and (w / 2 ^ (8 * k)) 255) 0 + cost (drop (4 / A.bits * (2 * (k + 1))) costs) (digits A (32 - 4 / A.bits * (2 * (k + 1))) (w / 2 ^ (8 * (k + 1)))) ≡ cost costs (digits A 32 w)
-total_turn A lawful costs sums of w k total l inv =
-    let p = 4 / A.bits in
-    let v = w / 2 ^ (8 * k) in
-    let first = p * (2 * k) in
-    let m = 32 - p * (2 * (k + 1)) in
-    let fit : (32 - first ≡ p + (p + m)) × (first + p ≡ p * (2 * k + 1)) × (first + p + p ≡ p * (2 * (k + 1))) = elim (few_bits A lawful) [
-      | inl e ↦ subst (λ b. (32 - 4 / b * (2 * k) ≡ 4 / b + (4 / b + (32 - 4 / b * (2 * (k + 1))))) × (4 / b * (2 * k) + 4 / b ≡ 4 / b * (2 * k + 1)) × (4 / b * (2 * k) + 4 / b + 4 / b ≡ 4 / b * (2 * (k + 1)))) (sym e) (omega (arith, l, e), omega arith, omega arith)
-      | inr e ↦ subst (λ b. (32 - 4 / b * (2 * k) ≡ 4 / b + (4 / b + (32 - 4 / b * (2 * (k + 1))))) × (4 / b * (2 * k) + 4 / b ≡ 4 / b * (2 * k + 1)) × (4 / b * (2 * k) + 4 / b + 4 / b ≡ 4 / b * (2 * (k + 1)))) (sym e) (omega (arith, l, e), omega arith, omega arith)
-    ] in
-    let split = byte_split A costs first p m v (nibble A lawful) in
-    let y : bit_and v 255 ≡ v % 256 = and_mask v 8 in
-    let low : v % 256 % 16 ≡ v % 16 = mod-mod-pow v 4 4 in
-    let high : v % 256 / 16 ≡ v / 16 % 16 = ap (λ x. x / 16) (mod-pow-add v 4 4) ∙ shr_high (v / 16 % 16) 4 (v % 16) (mod_below v 16 (omega arith)) in
-    let parts : v % 256 ≡ 16 * (v / 16 % 16) + v % 16 = mod-pow-add v 4 4 ∙ omega arith in
-    let place : 256 * k + bit_and v 255 ≡ 256 * k + 16 * (v / 16 % 16) + v % 16 = omega (arith, y, parts) in
-    let entry = ap (λ i. get_or sums i 0) place ∙ of k (v / 16 % 16) (v % 16) l (mod_below (v / 16) 16 (omega arith)) (mod_below v 16 (omega arith)) in
-    let here = ap (λ i. cost (drop first costs) (digits A i v)) fit.0 in
-    let second = ap (λ i. cost (drop i costs) (digits A p (v / 16 % 16))) fit.1 in
-    let next : v / 256 ≡ w / 2 ^ (8 * (k + 1)) = shr-shr w (8 * k) 8 ∙ ap (λ i. w / 2 ^ i) (omega arith) in
-    let rest = ap (λ i. cost (drop i costs) (digits A m (v / 256))) fit.2 ∙ ap (λ x. cost (drop (p * (2 * (k + 1))) costs) (digits A m x)) next in
-    omega (arith, inv, split, entry, here, second, rest)
-
--- behind the last byte nothing is left
-pub total_end : (A : Arithmetic) → Lawful A → (costs : List ℕ) (v k : ℕ) → k ≡ 4 * A.bits → cost (drop (4 / A.bits * (2 * k)) costs) (digits A (32 - 4 / A.bits * (2 * k)) v) ≡ 0
-total_end A lawful costs v k e =
-    let all : 32 - 4 / A.bits * (2 * k) ≡ 0 = ap (λ i. 32 - 4 / A.bits * (2 * i)) e ∙ elim (few_bits A lawful) [
-      | inl b ↦ ap (λ x. 32 - 4 / x * (2 * (4 * x))) b
-      | inr b ↦ ap (λ x. 32 - 4 / x * (2 * (4 * x))) b
-    ] in
-    ap (λ i. cost (drop (4 / A.bits * (2 * k)) costs) (digits A i v)) all
-
 -- the score of a word
 pub score_word : (A : Arithmetic) (costs : List ℕ) (n w : ℕ) → Word A n w → cost_score A costs n w ≡ cost costs (digits A 32 w)
 score_word A costs n w word = cond-true (legal A n w) (cost costs (digits A n w)) 0 word ∙ cost_word A costs n w word
@@ -174,11 +81,126 @@ same_digits A B e zero w = refl
 same_digits A B e (suc n) w =
     ap (λ b. w % 2 ^ b ∷ digits A n (w / 2 ^ b)) e ∙ ap (λ ds. w % 2 ^ B.bits ∷ ds) (same_digits A B e n (w / 2 ^ B.bits))
 
--- so do the sums for each byte
-pub same_bytes : (A B : Arithmetic) → A.bits ≡ B.bits → (costs sums : List ℕ) → AreOfBytes A costs sums → AreOfBytes B costs sums
-same_bytes A B e costs sums of k high low lk lh ll =
-    let a = same_digits A B e (4 / B.bits) low in
-    let b = same_digits A B e (4 / B.bits) high in
-    subst (λ p. get_or sums (256 * k + 16 * high + low) 0 ≡ cost (drop (p * (2 * k)) costs) (digits A p low) + cost (drop (p * (2 * k + 1)) costs) (digits A p high)) (ap (λ x. 4 / x) e) (of k high low (omega (arith, e)) lh ll)
-    ∙ ap (λ ds. cost (drop (4 / B.bits * (2 * k)) costs) ds + cost (drop (4 / B.bits * (2 * k + 1)) costs) (digits A (4 / B.bits) high)) a
-    ∙ ap (λ ds. cost (drop (4 / B.bits * (2 * k)) costs) (digits B (4 / B.bits) low) + cost (drop (4 / B.bits * (2 * k + 1)) costs) ds) b
+-- the cost of one factor
+cost_one : (costs : List ℕ) (m : ℕ) → cost costs (digits two (suc m) 1) ≡ get_or costs 0 0
+cost_one [] m = refl
+cost_one (c ∷ costs) m = omega (arith, cost_none two costs m)
+
+-- a bit above the others costs what its factor does
+cost_more : (costs : List ℕ) (j m low : ℕ) → low < 2 ^ j → cost costs (digits two (j + suc m) (2 ^ j + low)) ≡ cost costs (digits two (j + suc m) low) + get_or costs j 0
+cost_more costs j m low l =
+    let e : 2 ^ (1 * j) ≡ 2 ^ j = ap (λ k. 2 ^ k) (omega arith) in
+    let with_bit = cost_split two costs j (suc m) (2 ^ j + low) in
+    let without = cost_split two costs j (suc m) low in
+    let turned : 2 ^ j + low ≡ 1 * 2 ^ j + low = omega arith in
+    let high : (2 ^ j + low) / 2 ^ (1 * j) ≡ 1 = ap (λ k. (2 ^ j + low) / k) e ∙ ap (λ x. x / 2 ^ j) turned ∙ shr_high 1 j low l in
+    let rest : (2 ^ j + low) % 2 ^ (1 * j) ≡ low = ap (λ k. (2 ^ j + low) % k) e ∙ ap (λ x. x % 2 ^ j) turned ∙ mod_low 1 j low l in
+    let none : low / 2 ^ (1 * j) ≡ 0 = ap (λ k. low / k) e ∙ div-eq_of_lt l in
+    let same : j + 0 ≡ j = omega arith in
+    let a = ap (λ x. cost (drop j costs) (digits two (suc m) x)) high ∙ cost_one (drop j costs) m ∙ get_or-drop j costs 0 0 ∙ ap (λ i. get_or costs i 0) same in
+    let b = ap (λ x. cost (drop j costs) (digits two (suc m) x)) none ∙ cost_none two (drop j costs) (suc m) in
+    let c = ap (λ ds. cost costs ds) (sym (low_digits two j (2 ^ j + low)) ∙ ap (λ x. digits two j x) rest) in
+    omega (arith, with_bit, without, a, b, c)
+
+-- the sums below a place stand, and zeros from it on
+pub record SumsUpto (end : ℕ) (costs sums : List ℕ) : Type 0 where
+  pub size : length sums ≡ 384
+  pub stand : (k y : ℕ) → y < 64 → 64 * k + y < end → get_or sums (64 * k + y) 0 ≡ cost (drop (6 * k) costs) (digits two 6 y)
+  pub zeros : (i : ℕ) → end ≤ i → get_or sums i 0 ≡ 0
+
+-- at the start none stand
+pub sums_start : (costs : List ℕ) → SumsUpto 0 costs (replicate 384 0)
+sums_start costs = record {
+  size = length-replicate {A = ℕ} 384 0;
+  stand = λ k y l below. absurd (omega arith);
+  zeros = λ i l. elim (cases_lt i 384) [
+    | inl within ↦ get_or-replicate 384 i 0 0 within
+    | inr past ↦ get_or_past (replicate 384 0) i 0 (omega (arith, length-replicate {A = ℕ} 384 0))
+  ];
+}
+
+-- a part begins with a sum of no costs
+pub sums_part : (k : ℕ) (costs sums : List ℕ) → SumsUpto (64 * k) costs sums → SumsUpto (64 * k + 1) costs sums
+sums_part k costs sums upto = record {
+  size = upto.size;
+  stand = λ q y l below. elim (cases_lt (64 * q + y) (64 * k)) [
+    | inl before ↦ upto.stand q y l before
+    | inr here ↦
+        let none : y ≡ 0 = omega arith in
+        upto.zeros (64 * q + y) here ∙ sym (ap (λ x. cost (drop (6 * q) costs) (digits two 6 x)) none ∙ cost_none two (drop (6 * q) costs) 6)
+  ];
+  zeros = λ i l. upto.zeros i (omega arith);
+}
+
+-- the bits of a part are few
+pub few_values : (j : ℕ) → j < 6 → 2 ^ j + 2 ^ j ≤ 64
+few_values j l =
+    let two_pos : 0 < 2 = omega arith in
+    let more : suc j ≤ 6 = omega arith in
+    let most : 2 ^ suc j ≤ 2 ^ 6 = pow-le-pow_right two_pos more in
+    omega (arith, pow-suc 2 j, most)
+
+-- a sum is at most what 32 factors cost
+pub sum_most : (costs : List ℕ) (k y : ℕ) → length costs ≡ 32 → ((i : ℕ) → get_or costs i 0 < 65536) → cost (drop (6 * k) costs) (digits two 6 y) ≤ 2097120
+sum_most costs k y size small =
+    let most = cost_most (drop (6 * k) costs) (digits two 6 y) (λ i. subst (λ x. x < 65536) (sym (get_or-drop (6 * k) costs i 0)) (small (6 * k + i))) in
+    omega (arith, most, length-drop (6 * k) costs)
+
+-- one sum more: that without the highest bit, and the cost of its factor
+pub sums_next : (k j rest x : ℕ) (costs sums : List ℕ) → k < 6 → j < 6 → rest < 2 ^ j → x ≡ get_or sums (64 * k + rest) 0 + get_or costs (6 * k + j) 0 →
+    SumsUpto (64 * k + 2 ^ j + rest) costs sums → SumsUpto (64 * k + 2 ^ j + (rest + 1)) costs (set sums (64 * k + 2 ^ j + rest) x)
+sums_next k j rest x costs sums lk lj l e upto =
+    let end = 64 * k + 2 ^ j + rest in
+    let few = few_values j lj in
+    let size : length sums ≡ 384 = upto.size in
+    let within : end < length sums = omega arith in
+    let six : j + suc (5 - j) ≡ 6 = omega arith in
+    let more = cost_more (drop (6 * k) costs) j (5 - j) rest l in
+    let a = ap (λ n. cost (drop (6 * k) costs) (digits two n (2 ^ j + rest))) six in
+    let b = ap (λ n. cost (drop (6 * k) costs) (digits two n rest)) six in
+    let before = upto.stand k rest (omega arith) (omega arith) in
+    let of_bit = get_or-drop (6 * k) costs j 0 in
+    let value : x ≡ cost (drop (6 * k) costs) (digits two 6 (2 ^ j + rest)) = omega (arith, e, before, of_bit, more, a, b) in
+    record {
+      size = length-set sums end x ∙ upto.size;
+      stand = λ q y ly below. elim (cases_eq (64 * q + y) end) [
+        | inl here ↦
+            let same : q ≡ k = omega arith in
+            let y_is : y ≡ 2 ^ j + rest = omega arith in
+            ap (λ i. get_or (set sums end x) i 0) here ∙ get_or-set_same sums end x 0 within ∙ value
+            ∙ sym (ap₂ (λ p v. cost (drop (6 * p) costs) (digits two 6 v)) same y_is)
+        | inr other ↦ get_or-set_other sums end (64 * q + y) x 0 other ∙ upto.stand q y ly (omega arith)
+      ];
+      zeros = λ i li. let other : i ≢ end = omega arith in get_or-set_other sums end i x 0 other ∙ upto.zeros i (omega arith);
+    }
+
+-- what the factors from a part on cost whose bits are set
+abbrev pub cost_from : List ℕ → ℕ → ℕ → ℕ
+cost_from costs k v = cost (drop (6 * k) costs) (digits two (36 - 6 * k) v)
+
+-- from the first part on they are all
+pub from_start : (costs : List ℕ) (m : ℕ) → length costs ≡ 32 → cost_from costs 0 (m / 1) ≡ cost costs (digits two 32 m)
+from_start costs m size =
+    let split = cost_split two costs 32 4 m in
+    let none = ap (λ cs. cost cs (digits two 4 (m / 2 ^ 32))) (drop_all 32 costs (omega arith)) in
+    ap (λ v. cost costs (digits two 36 v)) (div-one m) ∙ omega (arith, split, none)
+
+-- a part, and those behind it
+pub from_part : (costs sums : List ℕ) → AreSums costs sums → (m k : ℕ) → k < 6 →
+    cost_from costs k (m / 2 ^ (6 * k)) ≡ get_or sums (64 * k + bit_and (m / 2 ^ (6 * k)) 63) 0 + cost_from costs (k + 1) (m / 2 ^ (6 * (k + 1)))
+from_part costs sums of m k l =
+    let v = m / 2 ^ (6 * k) in
+    let left = 36 - 6 * (k + 1) in
+    let count : 36 - 6 * k ≡ 6 + left = omega arith in
+    let all = ap (λ n. cost (drop (6 * k) costs) (digits two n v)) count in
+    let split = cost_split two (drop (6 * k) costs) 6 left v in
+    let low = ap (λ x. get_or sums (64 * k + x) 0) (and_mask v 6) ∙ of k (v % 64) l (mod_below v 64 (omega arith)) ∙ ap (cost (drop (6 * k) costs)) (low_digits two 6 v) in
+    let behind : 6 * k + 6 ≡ 6 * (k + 1) = omega arith in
+    let costs_behind = drop-drop 6 (6 * k) costs ∙ ap (λ i. drop i costs) behind in
+    let bits_behind : v / 64 ≡ m / 2 ^ (6 * (k + 1)) = shr-shr m (6 * k) 6 ∙ ap (λ i. m / 2 ^ i) behind in
+    let rest = ap₂ (λ cs x. cost cs (digits two left x)) costs_behind bits_behind in
+    omega (arith, all, split, low, rest)
+
+-- behind the last part none are left
+pub from_end : (costs : List ℕ) (k v : ℕ) → k ≡ 6 → cost_from costs k v ≡ 0
+from_end costs k v e = ap (λ i. cost_from costs i v) e

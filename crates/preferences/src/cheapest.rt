@@ -1,32 +1,35 @@
 // The cheaper word is better, by the costs of its factors.
-ghost use Rattle.std.specs.Prelude.{◌≡◌, ℕ, ◌/◌, ◌%◌, ◌^◌, ◌<◌, ◌≤◌, length, slice_index};
-ghost use Rattle.levels.specs.Arithmetic.{two, three};
+ghost use Rattle.std.specs.Prelude.{◌≡◌, ℕ, ◌<◌, slice_index};
 ghost use Rattle.levels.specs.Words.{digits};
 ghost use Rattle.preferences.specs.Built.{cheapest, cost, cost_score};
-ghost use Rattle.preferences.specs.Sums.{AreOfBytes, AreOfNibbles};
+ghost use Rattle.preferences.specs.Sums.{AreSums, mask_bits, mask_order, used};
 ghost use Rattle.std.proofs.Common.{rules};
 
 use crate::preference::{Preference, Scored, Verdict, smaller};
-use levels::{Levels, Span, ThreeLevels, TwoLevels};
+use levels::{Levels, Span};
 
 // No word has more factors.
 const FACTORS: usize = 32;
 
-// A code has 16 nibbles, of 16 values each.
-const OF_NIBBLES: usize = 256;
+// A mask of factors has 6 parts, of 6 bits each.
+const PARTS: usize = 6;
 
-// A code has 8 bytes, of 256 values each.
-const OF_BYTES: usize = 2048;
+// A part has 64 values.
+const SUMS: usize = 64 * PARTS;
 
-/// Cheaper words are better. Sums of costs are worked out once, for each value of each byte of a code.
+// The low bit of each digit of two bits.
+const LOW: u64 = 0x5555_5555_5555_5555;
+
+/// Cheaper words are better. Sums of costs are worked out once, for each value of each part of a mask of factors.
 #[derive(Clone, Copy)]
 pub struct Cheapest {
     costs: [u16; FACTORS],
-    of_two: [u32; OF_BYTES],
-    of_three: [u32; OF_BYTES],
+    // The sums where a digit takes one bit, and where it takes two.
+    one_bit: [u32; SUMS],
+    two_bits: [u32; SUMS],
     ghost small: { (i : ℕ) → slice_index costs i < 65536 },
-    ghost two: { AreOfBytes two costs of_two },
-    ghost three: { AreOfBytes three costs of_three },
+    ghost one: { AreSums (mask_order 1 costs) one_bit },
+    ghost two: { AreSums (mask_order 2 costs) two_bits },
 }
 
 impl Cheapest {
@@ -37,8 +40,8 @@ impl Cheapest {
     {
         Cheapest {
             costs,
-            of_two: sums_of_bytes::<TwoLevels>(&costs),
-            of_three: sums_of_bytes::<ThreeLevels>(&costs),
+            one_bit: sums_of(&costs),
+            two_bits: sums_of(&by_turns(&costs)),
         }
     }
 
@@ -48,13 +51,14 @@ impl Cheapest {
         ensures { result ≡ cost self.now.costs (digits L.model 32 word) }
     {
         let sums = if L::BITS == 1 {
-            &self.of_two
+            &self.one_bit
         } else {
-            &self.of_three
+            &self.two_bits
         };
+        let mask = mask_of::<L>(word);
         let mut total = 0;
-        for k in 0..4 * usize::from(L::BITS) {
-            total += sums[256 * k + ((word >> (8 * k)) & 255) as usize];
+        for k in 0..PARTS {
+            total += sums[64 * k + ((mask >> (6 * k)) & 63) as usize];
         }
         total
     }
@@ -83,65 +87,44 @@ impl<L: Levels> Scored<L> for Cheapest {
     }
 }
 
-// The sum of the costs of the factors whose digit is not 0, of as many factors as there are costs.
-fn direct<L: Levels>(costs: &[u16], word: u64) -> u32
-    requires { length costs.now ≤ 32 }
-    ensures { result ≡ cost costs.now (digits L.model (length costs.now) word) }
+// The mask, in `mask_order`, of the factors whose digit is not 0: the code itself with one bit a digit.
+#[inline]
+fn mask_of<L: Levels>(word: u64) -> u64
+    ensures { mask_bits result ≡ mask_order L.model.bits (used L.model word) }
 {
-    let mut total = 0;
-    let mut left = word;
-    for cost in costs {
-        if first_digit::<L>(left) != 0 {
-            total += u32::from(*cost);
-        }
-        left = other_digits::<L>(left);
+    if L::BITS == 1 {
+        word
+    } else {
+        let any = (word | word >> 1) & LOW;
+        any | any >> 31
     }
-    total
 }
 
-// The sums for each value of each nibble.
-fn sums_of_nibbles<L: Levels>(costs: &[u16]) -> [u32; OF_NIBBLES]
-    requires { length costs.now ≡ 32 }
-    ensures { AreOfNibbles L.model costs.now result }
+// The costs in the order of a mask of digits of two bits.
+fn by_turns(costs: &[u16; FACTORS]) -> [u16; FACTORS]
+    ensures { result ≡ mask_order 2 costs.now }
 {
-    let factors = 4 / usize::from(L::BITS);
-    let mut sums = [0; OF_NIBBLES];
-    for place in 0..FACTORS / factors * 16 {
-        let first = place / 16 * factors;
-        sums[place] = direct::<L>(&costs[first..first + factors], (place % 16) as u64);
+    let mut turned = [0; FACTORS];
+    for i in 0..FACTORS {
+        turned[i] = costs[i / 2 + i % 2 * 16];
     }
-    sums
+    turned
 }
 
-// The sums for each value of each byte: those of its two nibbles.
+// The sums for each value of each part of a mask whose bits stand for factors of these costs, and behind them for none.
 #[inline(never)]
-fn sums_of_bytes<L: Levels>(costs: &[u16]) -> [u32; OF_BYTES]
-    requires { length costs.now ≡ 32 }
-    ensures { AreOfBytes L.model costs.now result }
+fn sums_of(costs: &[u16; FACTORS]) -> [u32; SUMS]
+    ensures { AreSums costs.now result }
 {
-    let nibbles = sums_of_nibbles::<L>(costs);
-    let mut sums = [0; OF_BYTES];
-    for k in 0..4 * usize::from(L::BITS) {
-        for high in 0..16 {
-            for low in 0..16 {
-                sums[256 * k + 16 * high + low] = nibbles[32 * k + low]
-                    + nibbles[32 * k + 16 + high];
+    let mut sums = [0; SUMS];
+    for part in 0..PARTS {
+        for bit in 0..6 {
+            let cost = costs.get(6 * part + bit).map_or(0, |cost| u32::from(*cost));
+            let more = 1 << bit;
+            for rest in 0..more {
+                sums[64 * part + more + rest] = sums[64 * part + rest] + cost;
             }
         }
     }
     sums
-}
-
-// The digit of factor 1.
-fn first_digit<L: Levels>(word: u64) -> u64
-    ensures { result ≡ word % 2 ^ L.model.bits }
-{
-    word & ((1u64 << L::BITS) - 1)
-}
-
-// The digits of the other factors, each one place down.
-fn other_digits<L: Levels>(word: u64) -> u64
-    ensures { result ≡ word / 2 ^ L.model.bits }
-{
-    word >> L::BITS
 }

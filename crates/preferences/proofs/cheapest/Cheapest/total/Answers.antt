@@ -1,7 +1,9 @@
-use Rattle.std.proofs.Common.{◌≡◌, ℕ, ◌*◌, ◌/◌, ◌^◌, List, Bor, inl, inr, sym, subst, arith}
-use Rattle.levels.specs.Arithmetic.{two, three}
-use Rattle.preferences.specs.Sums.{AreOfBytes}
-use Rattle.preferences.proofs.Tables.{same_bytes, total_start, total_turn, total_most, total_end, few_bits}
+use Rattle.std.proofs.Common.{◌≡◌, ℕ, ◌*◌, ◌/◌, ◌^◌, List, Bor, length, inl, inr, sym, subst, arith}
+use Rattle.levels.specs.Words.{digits}
+use Rattle.preferences.specs.Sums.{AreSums, mask_order}
+use Rattle.preferences.proofs.Points.{cost_most}
+use Rattle.preferences.proofs.Tables.{few_bits, from_start, from_part, from_end}
+use Rattle.preferences.proofs.Masks.{cost_mask, order_length}
 use Rattle.preferences.proofs.cheapest.Cheapest.total.Goals as goal
 use Rattle.preferences.proofs.cheapest.Cheapest.total.Goals.{then-BITS-eq1, else-BITS-eq1}
 
@@ -9,45 +11,39 @@ pub loop-k-init : goal.loop-k-init
 loop-k-init g c =
     let A = g.L.Levels.model in
     let s = c.args.self.now in
+    let m = c.mask_of-mask.result in
+    let size : length s.costs ≡ 32 = omega arith in
     record {
       sums = elim c.if-BITS-eq1.branch [
         | then-BITS-eq1 w ↦
-            let one : two.bits ≡ A.bits = omega (arith, w.if-BITS-eq1.true, c.BITS.ensures, g.met.L.Levels.bits) in
-            subst (λ (r : Bor (List ℕ)). AreOfBytes A s.costs r.now) (sym w.sums-is) (same_bytes two A one s.costs s.of_two s.two)
+            let one : 1 ≡ A.bits = omega (arith, w.if-BITS-eq1.true, c.BITS.ensures, g.met.L.Levels.bits) in
+            subst (λ (r : Bor (List ℕ)). AreSums (mask_order A.bits s.costs) r.now) (sym w.sums-is) (subst (λ b. AreSums (mask_order b s.costs) s.one_bit) one s.one)
         | else-BITS-eq1 w ↦
-            let other : three.bits ≡ A.bits = elim (few_bits A g.met.L.Levels.lawful) [ inl e ↦ absurd (omega (arith, e, w.if-BITS-eq1.false, c.BITS.ensures, g.met.L.Levels.bits)) | inr e ↦ sym e ] in
-            subst (λ (r : Bor (List ℕ)). AreOfBytes A s.costs r.now) (sym w.sums-is) (same_bytes three A other s.costs s.of_three s.three)
+            let other : 2 ≡ A.bits = elim (few_bits A g.met.L.Levels.lawful) [ inl e ↦ absurd (omega (arith, e, w.if-BITS-eq1.false, c.BITS.ensures, g.met.L.Levels.bits)) | inr e ↦ sym e ] in
+            subst (λ (r : Bor (List ℕ)). AreSums (mask_order A.bits s.costs) r.now) (sym w.sums-is) (subst (λ b. AreSums (mask_order b s.costs) s.two_bits) other s.two)
       ];
-      total = total_start A s.costs c.args.word;
+      total = omega (arith, from_start (mask_order A.bits s.costs) m (order_length A.bits s.costs size), cost_mask A s.costs c.args.word m size c.mask_of-mask.ensures);
     }
 
 pub overflow_add-total-in-loop-k : goal.overflow_add-total-in-loop-k
 overflow_add-total-in-loop-k g c =
     let A = g.L.Levels.model in
-    let s = c.args.self.now in
-    let k = c.loop-k.k in
-    let bits : A.bits ≡ c.from-k-end.result = omega (arith, c.from-k-end.ensures, c.BITS-2.ensures, g.met.L.Levels.bits) in
-    let turn = total_turn A g.met.L.Levels.lawful s.costs c.if-BITS-eq1.sums.now c.loop-k.invariant.sums c.args.word k c.loop-k.total (omega (arith, c.loop-k-test.true, bits)) c.loop-k.invariant.total in
-    let most = total_most A s.costs c.args.word (omega arith) s.small in
-    record { fits = omega (arith, turn, most) }
+    let costs = c.args.self.now.costs in
+    let part = from_part (mask_order A.bits costs) c.if-BITS-eq1.sums.now c.loop-k.invariant.sums c.mask_of-mask.result c.loop-k.k c.loop-k-test.true in
+    let most = cost_most costs (digits A 32 c.args.word) c.args.self.now.small in
+    record { fits = omega (arith, part, most) }
 
 pub loop-k-preserved : goal.loop-k-preserved
 loop-k-preserved g c =
     let A = g.L.Levels.model in
-    let s = c.args.self.now in
-    let k = c.loop-k.k in
-    let bits : A.bits ≡ c.from-k-end.result = omega (arith, c.from-k-end.ensures, c.BITS-2.ensures, g.met.L.Levels.bits) in
-    record {
-      sums = c.loop-k.invariant.sums;
-      total = total_turn A g.met.L.Levels.lawful s.costs c.if-BITS-eq1.sums.now c.loop-k.invariant.sums c.args.word k c.loop-k.total (omega (arith, c.loop-k-test.true, bits)) c.loop-k.invariant.total;
-    }
+    let costs = c.args.self.now.costs in
+    let part = from_part (mask_order A.bits costs) c.if-BITS-eq1.sums.now c.loop-k.invariant.sums c.mask_of-mask.result c.loop-k.k c.loop-k-test.true in
+    record { sums = c.loop-k.invariant.sums; total = omega (arith, part, c.loop-k.invariant.total) }
 
--- behind the last byte
+-- behind the last part
 pub returns : goal.returns
 returns g c =
     let A = g.L.Levels.model in
-    let s = c.args.self.now in
     let k = c.loop-k.k in
-    let bits : A.bits ≡ c.from-k-end.result = omega (arith, c.from-k-end.ensures, c.BITS-2.ensures, g.met.L.Levels.bits) in
-    let end = total_end A g.met.L.Levels.lawful s.costs (c.args.word / 2 ^ (8 * k)) k (omega (arith, c.loop-k.auto.k-end, c.loop-k-test.false, bits)) in
+    let end = from_end (mask_order A.bits c.args.self.now.costs) k (c.mask_of-mask.result / 2 ^ (6 * k)) (omega arith) in
     omega (arith, c.loop-k.invariant.total, end)
