@@ -7,24 +7,26 @@ ghost use Rattle.bindings.specs.Numbers.{levels_by, relation, rule_by, side_by};
 ghost use Rattle.bindings.specs.Outcomes.{outcome_of};
 
 use crate::file::settle;
+use crate::made::Made;
 use crate::numbers::{Costs, Rule, side_by};
 use crate::outcome::Outcome;
 use contents::{Refusal, Side};
 use levels::Levels;
-use preferences::Preference;
 
-// By any preference.
-//
-fn choose<L: Levels, P: Preference<L>>(
+// By the preference of a rule.
+#[inline(never)]
+fn choose<L: Levels, P: Made<L>>(
     file: &[u8],
     side: Side,
-    preference: &P,
+    costs: [u16; 32],
     memory: &mut [u64],
 ) -> Result<usize, Refusal>
-    ensures count { result ≡ told (read_file L.Levels.model file.now) (chosen L.Levels.model (P.Preference.good preference.now) side) memory.old }
-    ensures stored { memory.new ≡ left (read_file L.Levels.model file.now) (chosen L.Levels.model (P.Preference.good preference.now) side) memory.old }
+    ensures count { let best = chosen L.model (relation L.model costs P.rule) side in
+        result ≡ told (read_file L.model file.now) best memory.old }
+    ensures stored { let best = chosen L.model (relation L.model costs P.rule) side in
+        memory.new ≡ left (read_file L.model file.now) best memory.old }
 {
-    settle::<L>(file)?.choose(side, preference, memory)
+    settle::<L>(file)?.choose(side, &P::made(costs), memory)
 }
 
 // By a rule and the costs that it may need.
@@ -35,10 +37,12 @@ fn choose_by<L: Levels>(
     costs: [u16; 32],
     memory: &mut [u64],
 ) -> Result<usize, Refusal>
-    ensures count { result ≡ told (read_file L.Levels.model file.now) (chosen L.Levels.model (relation L.Levels.model costs rule) side) memory.old }
-    ensures stored { memory.new ≡ left (read_file L.Levels.model file.now) (chosen L.Levels.model (relation L.Levels.model costs rule) side) memory.old }
+    ensures count { let best = chosen L.model (relation L.model costs rule) side in
+        result ≡ told (read_file L.model file.now) best memory.old }
+    ensures stored { let best = chosen L.model (relation L.model costs rule) side in
+        memory.new ≡ left (read_file L.model file.now) best memory.old }
 {
-    by_rule!(rule, costs, preference => choose::<L, _>(file, side, &preference, memory))
+    by_rule!(rule, choose::<L>(file, side, costs, memory))
 }
 
 /// Writes the best generators into memory; the value is how many there are.

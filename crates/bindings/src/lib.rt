@@ -13,33 +13,16 @@ macro_rules! by_levels {
     };
 }
 
-// A call with the preference of a rule, and the costs that it may need. One type of preferences that switches at each
-// question makes the choice of the shortest generators 1.5 times slower, so the switch stands outside.
+// A call at the preference of a rule: a function for each, which clears the memory of no other preference.
 macro_rules! by_rule {
-    ($rule:expr, $costs:expr, $preference:ident => $call:expr) => {
+    ($rule:expr, $call:ident::<$levels:ident>($($argument:expr),*)) => {
         match $rule {
-            $crate::numbers::Rule::Shortest => {
-                let $preference = preferences::Shortest;
-                $call
-            }
-            $crate::numbers::Rule::Cheapest => {
-                let $preference = preferences::Cheapest::new($costs);
-                $call
-            }
-            $crate::numbers::Rule::LeastAberration => {
-                let $preference = preferences::LeastAberration;
-                $call
-            }
-            $crate::numbers::Rule::Longest => {
-                let $preference = preferences::Reversed(preferences::Shortest);
-                $call
-            }
-            $crate::numbers::Rule::CheapestThenLeastAberration => {
-                let $preference = preferences::FirstThenSecond {
-                    first: preferences::Cheapest::new($costs),
-                    second: preferences::LeastAberration,
-                };
-                $call
+            Rule::Shortest => $call::<$levels, preferences::Shortest>($($argument),*),
+            Rule::Cheapest => $call::<$levels, preferences::Cheapest>($($argument),*),
+            Rule::LeastAberration => $call::<$levels, preferences::LeastAberration>($($argument),*),
+            Rule::Longest => $call::<$levels, $crate::made::Longest>($($argument),*),
+            Rule::CheapestThenLeastAberration => {
+                $call::<$levels, $crate::made::CheapestThenLeastAberration>($($argument),*)
             }
         }
     };
@@ -49,6 +32,7 @@ mod changes;
 mod file;
 mod filling;
 mod generators;
+mod made;
 mod numbers;
 pub mod outcome;
 mod questions;

@@ -7,26 +7,33 @@ ghost use Rattle.bindings.specs.Numbers.{levels_by, scored_points, scored_relati
 ghost use Rattle.bindings.specs.Outcomes.{outcome_of};
 
 use crate::file::settle;
+use crate::made::MadeScored;
 use crate::numbers::{Costs, ScoredRule, side_by};
 use crate::outcome::Outcome;
 use contents::{Refusal, Side};
 use levels::Levels;
-use preferences::{Cheapest, Scored, Shortest};
+use preferences::{Cheapest, Shortest};
 
-// By any scored preference.
-//
-fn choose_scored<L: Levels, P: Scored<L>>(
+// By the preference of a scored rule.
+#[inline(never)]
+fn choose_scored<L: Levels, P: MadeScored<L>>(
     file: &[u8],
     side: Side,
-    preference: &P,
+    costs: [u16; 32],
     words: &mut [u64],
     scores: &mut [u32],
 ) -> Result<usize, Refusal>
-    ensures count { result ≡ told_both (read_file L.Levels.model file.now) (chosen L.Levels.model (P.Preference.good preference.now) side) words.old scores.old }
-    ensures words { words.new ≡ left_both (read_file L.Levels.model file.now) (chosen L.Levels.model (P.Preference.good preference.now) side) (chosen L.Levels.model (P.Preference.good preference.now) side) words.old scores.old words.old }
-    ensures scores { scores.new ≡ left_both (read_file L.Levels.model file.now) (chosen L.Levels.model (P.Preference.good preference.now) side) (chosen_scores L.Levels.model (P.Preference.good preference.now) (P.Scored.points preference.now) side) words.old scores.old scores.old }
+    ensures count { let best = chosen L.model (scored_relation L.model costs P.rule) side in
+        result ≡ told_both (read_file L.model file.now) best words.old scores.old }
+    ensures words { let best = chosen L.model (scored_relation L.model costs P.rule) side in
+        words.new ≡ left_both (read_file L.model file.now) best best words.old scores.old words.old }
+    ensures scores { let good = scored_relation L.model costs P.rule in
+        let points = scored_points L.model costs P.rule in
+        let best = chosen L.model good side in
+        let scored = chosen_scores L.model good points side in
+        scores.new ≡ left_both (read_file L.model file.now) best scored words.old scores.old scores.old }
 {
-    settle::<L>(file)?.choose_scored(side, preference, words, scores)
+    settle::<L>(file)?.choose_scored(side, &P::made_scored(costs), words, scores)
 }
 
 // By a scored rule and the costs that it may need.
@@ -38,15 +45,19 @@ fn choose_scored_by<L: Levels>(
     words: &mut [u64],
     scores: &mut [u32],
 ) -> Result<usize, Refusal>
-    ensures count { result ≡ told_both (read_file L.Levels.model file.now) (chosen L.Levels.model (scored_relation L.Levels.model costs rule) side) words.old scores.old }
-    ensures words { words.new ≡ left_both (read_file L.Levels.model file.now) (chosen L.Levels.model (scored_relation L.Levels.model costs rule) side) (chosen L.Levels.model (scored_relation L.Levels.model costs rule) side) words.old scores.old words.old }
-    ensures scores { scores.new ≡ left_both (read_file L.Levels.model file.now) (chosen L.Levels.model (scored_relation L.Levels.model costs rule) side) (chosen_scores L.Levels.model (scored_relation L.Levels.model costs rule) (scored_points L.Levels.model costs rule) side) words.old scores.old scores.old }
+    ensures count { let best = chosen L.model (scored_relation L.model costs rule) side in
+        result ≡ told_both (read_file L.model file.now) best words.old scores.old }
+    ensures words { let best = chosen L.model (scored_relation L.model costs rule) side in
+        words.new ≡ left_both (read_file L.model file.now) best best words.old scores.old words.old }
+    ensures scores { let good = scored_relation L.model costs rule in
+        let points = scored_points L.model costs rule in
+        let best = chosen L.model good side in
+        let scored = chosen_scores L.model good points side in
+        scores.new ≡ left_both (read_file L.model file.now) best scored words.old scores.old scores.old }
 {
     match rule {
-        ScoredRule::Shortest => choose_scored::<L, _>(file, side, &Shortest, words, scores),
-        ScoredRule::Cheapest => {
-            choose_scored::<L, _>(file, side, &Cheapest::new(costs), words, scores)
-        }
+        ScoredRule::Shortest => choose_scored::<L, Shortest>(file, side, costs, words, scores),
+        ScoredRule::Cheapest => choose_scored::<L, Cheapest>(file, side, costs, words, scores),
     }
 }
 
