@@ -2,13 +2,13 @@
 // C hands over levels, a side and a preference by number.
 #![tactic(auto)]
 
-// A call at the levels of a number: 3 is three levels, any other number two.
+// A call at the levels of a number.
 macro_rules! by_levels {
     ($levels:expr, $call:ident($($argument:expr),*)) => {
-        if $levels == 3 {
-            $call::<levels::ThreeLevels>($($argument),*)
-        } else {
-            $call::<levels::TwoLevels>($($argument),*)
+        match LevelCount::try_from($levels) {
+            Ok(LevelCount::Two) => $call::<levels::TwoLevels>($($argument),*),
+            Ok(LevelCount::Three) => $call::<levels::ThreeLevels>($($argument),*),
+            Err(unknown) => Err(unknown),
         }
     };
 }
@@ -36,6 +36,7 @@ mod made;
 mod numbers;
 pub mod outcome;
 mod questions;
+pub mod refused;
 mod scored;
 mod trial_page;
 mod two_levels;
