@@ -20,7 +20,8 @@ of_plan (Ok x) = Ok x
 of_plan (Err e) = Err (Plan e)
 
 -- an answer about the content that was read, or the refusal
-abbrev pub asked : {X : Type 0} → Result Content Refusal → (Content → Result X Refusal) → Result X Refused
+abbrev pub asked : {X : Type 0} → Result Content Refusal → (Content → Result X Refusal)
+    → Result X Refused
 asked (Ok p) answer = of_plan (answer p)
 asked (Err e) answer = Err (Plan e)
 
@@ -44,7 +45,7 @@ abbrev pub left : {X : Type 0} → Result (List X) Refused → List X → List X
 left (Ok answer) memory = holding answer memory
 left (Err e) memory = memory
 
--- what is returned where words and their scores go into two memories, neither of which may be too short
+-- what is returned where words and scores go into two memories, neither of which may be too short
 abbrev pub told_both : Result (List ℕ × List ℕ) Refused → List ℕ → List ℕ → Result ℕ Refused
 told_both (Ok best) words scores =
     if both_fit (length best.0) words scores then Ok (length best.0) else Err (Plan Memory)
@@ -52,9 +53,11 @@ told_both (Err e) words scores = Err e
 
 -- either memory afterwards
 abbrev pub left_words : Result (List ℕ × List ℕ) Refused → List ℕ → List ℕ → List ℕ
-left_words (Ok best) words scores = holding_if (both_fit (length best.0) words scores) best.0 words
+left_words (Ok best) words scores =
+    holding_if (both_fit (length best.0) words scores) best.0 words
 left_words (Err e) words scores = words
 
 abbrev pub left_scores : Result (List ℕ × List ℕ) Refused → List ℕ → List ℕ → List ℕ
-left_scores (Ok best) words scores = holding_if (both_fit (length best.0) words scores) best.1 scores
+left_scores (Ok best) words scores =
+    holding_if (both_fit (length best.0) words scores) best.1 scores
 left_scores (Err e) words scores = scores

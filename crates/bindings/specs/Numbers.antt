@@ -49,7 +49,8 @@ relation A costs Shortest = shortest A
 relation A costs Cheapest = cheapest A costs
 relation A costs LeastAberration = least_aberration A
 relation A costs Longest = reversed (shortest A)
-relation A costs CheapestThenLeastAberration = first_then_second (cheapest A costs) (least_aberration A)
+relation A costs CheapestThenLeastAberration =
+    first_then_second (cheapest A costs) (least_aberration A)
 
 -- the scored preferences count from 0
 abbrev pub scored_rule_by : ℕ → Result ScoredRule Refused

@@ -1,4 +1,4 @@
--- What the exports answer of a plan file, once the levels are known. Numbers are checked before the file is read.
+-- What the exports answer, once the levels are known: first of numbers, then of the plan of a file.
 use Rattle.std.specs.Prelude.{ℕ, List, length, Some, None, Ok, Option, Result}
 use Rattle.levels.specs.Arithmetic.{Arithmetic, two}
 use Rattle.preferences.specs.Verdicts.{verdict}
@@ -39,16 +39,19 @@ factors_in A file = seen (read_file A file) (λ p. p.factors)
 
 -- how many words a list has
 abbrev pub count_in : Arithmetic → List ℕ → ℕ → Result ℕ Refused
-count_in A file side = and_then (side_by side) (λ s. seen (read_file A file) (λ p. length (side_of s p)))
+count_in A file side =
+    and_then (side_by side) (λ s. seen (read_file A file) (λ p. length (side_of s p)))
 
 -- the word at a place of a list
 abbrev pub word_in : Arithmetic → List ℕ → ℕ → ℕ → Result ℕ Refused
-word_in A file side place = and_then (side_by side) (λ s. asked (read_file A file) (word_at s place))
+word_in A file side place =
+    and_then (side_by side) (λ s. asked (read_file A file) (word_at s place))
 
 -- the generators of a side by a preference
 abbrev pub generators_in : Arithmetic → List ℕ → ℕ → ℕ → List ℕ → Result (List ℕ) Refused
 generators_in A file side preference costs =
-    and_then (side_by side) (λ s. and_then (rule_by preference) (λ rule.
+    and_then (side_by side) (λ s.
+    and_then (rule_by preference) (λ rule.
     seen (read_file A file) (chosen A (relation A costs rule) s)))
 
 -- the generators of a side by a scored rule, and their scores
@@ -60,13 +63,15 @@ scored A costs rule side p =
 -- the same of the plan of a file
 abbrev pub scored_in : Arithmetic → List ℕ → ℕ → ℕ → List ℕ → Result (List ℕ × List ℕ) Refused
 scored_in A file side preference costs =
-    and_then (side_by side) (λ s. and_then (scored_rule_by preference) (λ rule.
+    and_then (side_by side) (λ s.
+    and_then (scored_rule_by preference) (λ rule.
     seen (read_file A file) (scored A costs rule s)))
 
 -- the number of the verdict of a preference on two codes, with no file
 abbrev pub verdict_by : Arithmetic → ℕ → List ℕ → ℕ → List ℕ → ℕ → ℕ → Result ℕ Refused
 verdict_by A preference costs n base a b =
-    and_then (rule_by preference) (λ rule. Ok (verdict_number (verdict A (relation A costs rule) n base a b)))
+    and_then (rule_by preference) (λ rule.
+    Ok (verdict_number (verdict A (relation A costs rule) n base a b)))
 
 -- the wordlength pattern of the defining words
 abbrev pub pattern_in : Arithmetic → List ℕ → Result (List ℕ) Refused
@@ -82,10 +87,12 @@ count_part None = 0
 count_part (Some r) = r.1
 
 abbrev pub resolution_in : Arithmetic → List ℕ → Result ℕ Refused
-resolution_in A file = seen (read_file A file) (λ p. length_part (resolution A p.factors (defined A p)))
+resolution_in A file =
+    seen (read_file A file) (λ p. length_part (resolution A p.factors (defined A p)))
 
 abbrev pub resolution_count_in : Arithmetic → List ℕ → Result ℕ Refused
-resolution_count_in A file = seen (read_file A file) (λ p. count_part (resolution A p.factors (defined A p)))
+resolution_count_in A file =
+    seen (read_file A file) (λ p. count_part (resolution A p.factors (defined A p)))
 
 -- alias member m of a word
 abbrev pub alias_member_in : Arithmetic → List ℕ → ℕ → ℕ → Result ℕ Refused
@@ -101,7 +108,8 @@ clear_in file = seen (read_file two file) (λ p. clear_bytes p.factors p.definin
 
 -- how many pairs are clear, where the bytes go into memory
 abbrev pub clear_count_in : List ℕ → List ℕ → Result ℕ Refused
-clear_count_in file memory = asked (read_file two file) (λ p. wrote_ones (clear_bytes p.factors p.defining) memory)
+clear_count_in file memory =
+    asked (read_file two file) (λ p. wrote_ones (clear_bytes p.factors p.defining) memory)
 
 -- with two levels, run m, from 0
 abbrev pub run_in : List ℕ → ℕ → Result ℕ Refused

@@ -14,7 +14,6 @@ use crate::outcome::Outcome;
 use crate::refused::Refused;
 use contents::Side;
 use levels::Levels;
-use std::convert::TryFrom;
 
 // By the preference of a rule.
 #[inline(never)]

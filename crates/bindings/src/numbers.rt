@@ -5,7 +5,6 @@ ghost use Rattle.bindings.specs.Numbers.{level_count_by, rule_by, scored_rule_by
 use crate::refused::Refused;
 use contents::Side;
 use preferences::Verdict;
-use std::convert::TryFrom;
 
 /// The costs of 32 factors, factor 1 first.
 #[repr(C)]

@@ -1,11 +1,11 @@
-// Why an export has no answer.
+// What an export refuses.
 ghost use Rattle.std.specs.Prelude.{◌≡◌};
 ghost use Rattle.bindings.specs.Outcomes.{refused_number};
 
 use contents::Refusal;
 
 /// Why an export has no answer.
-#[derive(Clone, Copy)]
+#[derive(Clone, Copy, PartialEq, Eq, Debug)]
 pub enum Refused {
     /// a number stands for no levels, no side or no preference
     Unknown,

@@ -14,7 +14,6 @@ use crate::refused::Refused;
 use contents::Side;
 use levels::Levels;
 use preferences::{Cheapest, Shortest};
-use std::convert::TryFrom;
 
 // By the preference of a scored rule.
 #[inline(never)]
@@ -25,11 +24,14 @@ fn choose_scored<L: Levels, P: MadeScored<L>>(
     words: &mut [u64],
     scores: &mut [u32],
 ) -> Result<usize, Refused>
-    ensures count { let best = seen (read_file L.model file.now) (scored L.model costs P.rule side) in
+    ensures count { let answer = scored L.model costs P.rule side in
+        let best = seen (read_file L.model file.now) answer in
         result ≡ told_both best words.old scores.old }
-    ensures words { let best = seen (read_file L.model file.now) (scored L.model costs P.rule side) in
+    ensures words { let answer = scored L.model costs P.rule side in
+        let best = seen (read_file L.model file.now) answer in
         words.new ≡ left_words best words.old scores.old }
-    ensures scores { let best = seen (read_file L.model file.now) (scored L.model costs P.rule side) in
+    ensures scores { let answer = scored L.model costs P.rule side in
+        let best = seen (read_file L.model file.now) answer in
         scores.new ≡ left_scores best words.old scores.old }
 {
     let plan = settle::<L>(file)?;

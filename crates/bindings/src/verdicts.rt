@@ -11,7 +11,6 @@ use crate::outcome::Outcome;
 use crate::refused::Refused;
 use levels::Levels;
 use preferences::{Preference, Verdict};
-use std::convert::TryFrom;
 
 // By the preference of a rule.
 #[inline(never)]
@@ -37,7 +36,7 @@ fn compare_by<L: Levels>(
     Ok(verdict_number(verdict))
 }
 
-/// Which of two codes is better, for n factors and a base list of words: 0 neither, 1 the first, 2 the second.
+/// Which of two codes is better, for n factors and a base list: 0 neither, 1 the first, 2 the second.
 #[unsafe(no_mangle)]
 pub extern "C" fn zorilla_verdict(
     levels: u8,
