@@ -28,7 +28,8 @@ fn choose<L: Levels, P: Made<L>>(
     ensures stored { let best = chosen L.model (relation L.model costs P.rule) side in
         memory.new ≡ left (seen (read_file L.model file.now) best) memory.old }
 {
-    Ok(settle::<L>(file)?.choose(side, &P::made(costs), memory)?)
+    let preference = P::made(costs);
+    Ok(settle::<L>(file)?.choose(side, &preference, memory)?)
 }
 
 // By the number of a preference and the costs that it may need.

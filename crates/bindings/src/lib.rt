@@ -2,7 +2,7 @@
 // C hands over levels, a side and a preference by number.
 #![tactic(auto)]
 
-// A call at the levels of a number.
+// A call at the levels of a number, or the refusal of the number.
 macro_rules! by_levels {
     ($levels:expr, $call:ident($($argument:expr),*)) => {
         match LevelCount::try_from($levels) {

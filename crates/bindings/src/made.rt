@@ -1,4 +1,4 @@
-// The preference that a rule names, made from the costs that it may need.
+// The preferences that rules name, each made from a table of costs.
 ghost use Rattle.std.specs.Prelude.{◌≡◌};
 ghost use Rattle.bindings.specs.Numbers.{relation, scored_points, scored_relation};
 ghost use Rattle.bindings.specs.declared.numbers.Rule.{Rule};
@@ -13,7 +13,7 @@ pub(crate) type Longest = Reversed<Shortest>;
 
 pub(crate) type CheapestThenLeastAberration = FirstThenSecond<Cheapest, LeastAberration>;
 
-// A preference that has a rule.
+// A preference that a rule names; it may pass over the costs.
 pub(crate) trait Made<L: Levels>: Preference<L> + Drop {
     ghost rule: { Rule };
 
@@ -64,7 +64,7 @@ impl<L: Levels> Made<L> for CheapestThenLeastAberration {
     }
 }
 
-// A preference that has a scored rule.
+// A preference that a scored rule names.
 pub(crate) trait MadeScored<L: Levels>: Scored<L> + Drop {
     ghost rule: { ScoredRule };
 

@@ -82,7 +82,7 @@ impl TryFrom<u8> for ScoredRule {
     }
 }
 
-// The side of a number. A function: `Side` and `TryFrom` are both of other crates.
+// The side that a number names.
 pub(crate) fn side_by(number: u8) -> Result<Side, Refused>
     ensures { result ≡ side_by number }
 {

@@ -34,8 +34,8 @@ fn choose_scored<L: Levels, P: MadeScored<L>>(
         let best = seen (read_file L.model file.now) answer in
         scores.new ≡ left_scores best words.old scores.old }
 {
-    let plan = settle::<L>(file)?;
-    Ok(plan.choose_scored(side, &P::made_scored(costs), words, scores)?)
+    let preference = P::made_scored(costs);
+    Ok(settle::<L>(file)?.choose_scored(side, &preference, words, scores)?)
 }
 
 // By the number of a scored preference and the costs that it may need.
