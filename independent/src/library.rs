@@ -23,7 +23,7 @@ extern "C" {
     fn zorilla_write(levels: u8, file: *const u8, bytes: usize, memory: *mut u8, room: usize) -> Outcome;
     fn zorilla_choose(levels: u8, file: *const u8, bytes: usize, side: u8, preference: u8, costs: *const Costs, memory: *mut u64, room: usize) -> Outcome;
     fn zorilla_choose_scored(levels: u8, file: *const u8, bytes: usize, side: u8, preference: u8, costs: *const Costs, words: *mut u64, words_room: usize, scores: *mut u32, scores_room: usize) -> Outcome;
-    fn zorilla_verdict(levels: u8, preference: u8, costs: *const Costs, n: u8, base: *const u64, words: usize, a: u64, b: u64) -> u64;
+    fn zorilla_verdict(levels: u8, preference: u8, costs: *const Costs, n: u8, base: *const u64, words: usize, a: u64, b: u64) -> Outcome;
     fn zorilla_factors(levels: u8, file: *const u8, bytes: usize) -> Outcome;
     fn zorilla_count(levels: u8, file: *const u8, bytes: usize, side: u8) -> Outcome;
     fn zorilla_word(levels: u8, file: *const u8, bytes: usize, side: u8, place: usize) -> Outcome;
@@ -81,8 +81,8 @@ pub fn choose_scored(levels: u8, file: &[u8], side: u8, preference: u8, costs: &
     })
 }
 
-pub fn verdict(levels: u8, preference: u8, costs: &Costs, n: u8, base: &[u64], a: u64, b: u64) -> u64 {
-    unsafe { zorilla_verdict(levels, preference, costs, n, base.as_ptr(), base.len(), a, b) }
+pub fn verdict(levels: u8, preference: u8, costs: &Costs, n: u8, base: &[u64], a: u64, b: u64) -> Answer {
+    answer(unsafe { zorilla_verdict(levels, preference, costs, n, base.as_ptr(), base.len(), a, b) })
 }
 
 pub fn factors(levels: u8, file: &[u8]) -> Answer {

@@ -21,6 +21,8 @@ pub const VERSION: u32 = 9;
 pub const LEVELS: u32 = 10;
 pub const SURPLUS: u32 = 11;
 pub const LAST: u32 = 12;
+/// A number stands for no levels, no side or no preference.
+pub const UNKNOWN: u32 = 255;
 
 /// The digits of a code, if it is legal for n factors.
 pub fn digits(s: u8, n: u8, code: u64) -> Option<Word> {

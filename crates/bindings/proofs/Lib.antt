@@ -1,2 +1,3 @@
 mod Acted
+mod Known
 mod Paged

@@ -2,44 +2,27 @@
 // C hands over levels, a side and a preference by number.
 #![tactic(auto)]
 
-// A call at the levels of a number: 3 is three levels, any other number two.
+// A call at the levels of a number, or the refusal of the number.
 macro_rules! by_levels {
     ($levels:expr, $call:ident($($argument:expr),*)) => {
-        if $levels == 3 {
-            $call::<levels::ThreeLevels>($($argument),*)
-        } else {
-            $call::<levels::TwoLevels>($($argument),*)
+        match LevelCount::try_from($levels) {
+            Ok(LevelCount::Two) => $call::<levels::TwoLevels>($($argument),*),
+            Ok(LevelCount::Three) => $call::<levels::ThreeLevels>($($argument),*),
+            Err(unknown) => Err(unknown),
         }
     };
 }
 
-// A call with the preference of a rule, and the costs that it may need. One type of preferences that switches at each
-// question makes the choice of the shortest generators 1.5 times slower, so the switch stands outside.
+// A call at the preference of a rule: a function for each, which clears the memory of no other preference.
 macro_rules! by_rule {
-    ($rule:expr, $costs:expr, $preference:ident => $call:expr) => {
+    ($rule:expr, $call:ident::<$levels:ident>($($argument:expr),*)) => {
         match $rule {
-            $crate::numbers::Rule::Shortest => {
-                let $preference = preferences::Shortest;
-                $call
-            }
-            $crate::numbers::Rule::Cheapest => {
-                let $preference = preferences::Cheapest::new($costs);
-                $call
-            }
-            $crate::numbers::Rule::LeastAberration => {
-                let $preference = preferences::LeastAberration;
-                $call
-            }
-            $crate::numbers::Rule::Longest => {
-                let $preference = preferences::Reversed(preferences::Shortest);
-                $call
-            }
-            $crate::numbers::Rule::CheapestThenLeastAberration => {
-                let $preference = preferences::FirstThenSecond {
-                    first: preferences::Cheapest::new($costs),
-                    second: preferences::LeastAberration,
-                };
-                $call
+            Rule::Shortest => $call::<$levels, preferences::Shortest>($($argument),*),
+            Rule::Cheapest => $call::<$levels, preferences::Cheapest>($($argument),*),
+            Rule::LeastAberration => $call::<$levels, preferences::LeastAberration>($($argument),*),
+            Rule::Longest => $call::<$levels, $crate::made::Longest>($($argument),*),
+            Rule::CheapestThenLeastAberration => {
+                $call::<$levels, $crate::made::CheapestThenLeastAberration>($($argument),*)
             }
         }
     };
@@ -49,9 +32,11 @@ mod changes;
 mod file;
 mod filling;
 mod generators;
+mod made;
 mod numbers;
 pub mod outcome;
 mod questions;
+pub mod refused;
 mod scored;
 mod trial_page;
 mod two_levels;

@@ -1,7 +1,8 @@
 // What a number stands for that a caller hands over.
 ghost use Rattle.std.specs.Prelude.{◌≡◌};
-ghost use Rattle.bindings.specs.Numbers.{rule_by, scored_rule_by, side_by, verdict_number};
+ghost use Rattle.bindings.specs.Numbers.{level_count_by, rule_by, scored_rule_by, side_by, verdict_number};
 
+use crate::refused::Refused;
 use contents::Side;
 use preferences::Verdict;
 
@@ -10,6 +11,27 @@ use preferences::Verdict;
 #[derive(Clone, Copy)]
 pub struct Costs {
     pub table: [u16; 32],
+}
+
+// The numbers of levels that a caller can name.
+#[derive(Clone, Copy)]
+pub(crate) enum LevelCount {
+    Two,
+    Three,
+}
+
+impl TryFrom<u8> for LevelCount {
+    type Error = Refused;
+
+    ghost try_from_gives = { λ number count. count ≡ level_count_by number };
+
+    fn try_from(number: u8) -> Result<LevelCount, Refused> {
+        match number {
+            2 => Ok(LevelCount::Two),
+            3 => Ok(LevelCount::Three),
+            _ => Err(Refused::Unknown),
+        }
+    }
 }
 
 // The preferences that a caller can name.
@@ -22,17 +44,19 @@ pub(crate) enum Rule {
     CheapestThenLeastAberration,
 }
 
-// 1 is cheapest, 2 least aberration, 3 longest, 4 cheapest and then least aberration, any other number shortest.
-impl From<u8> for Rule {
-    ghost from_gives = { λ number rule. rule ≡ rule_by number };
+impl TryFrom<u8> for Rule {
+    type Error = Refused;
 
-    fn from(number: u8) -> Rule {
+    ghost try_from_gives = { λ number rule. rule ≡ rule_by number };
+
+    fn try_from(number: u8) -> Result<Rule, Refused> {
         match number {
-            1 => Rule::Cheapest,
-            2 => Rule::LeastAberration,
-            3 => Rule::Longest,
-            4 => Rule::CheapestThenLeastAberration,
-            _ => Rule::Shortest,
+            0 => Ok(Rule::Shortest),
+            1 => Ok(Rule::Cheapest),
+            2 => Ok(Rule::LeastAberration),
+            3 => Ok(Rule::Longest),
+            4 => Ok(Rule::CheapestThenLeastAberration),
+            _ => Err(Refused::Unknown),
         }
     }
 }
@@ -44,25 +68,28 @@ pub(crate) enum ScoredRule {
     Cheapest,
 }
 
-// 1 is cheapest, any other number shortest.
-impl From<u8> for ScoredRule {
-    ghost from_gives = { λ number rule. rule ≡ scored_rule_by number };
+impl TryFrom<u8> for ScoredRule {
+    type Error = Refused;
 
-    fn from(number: u8) -> ScoredRule {
+    ghost try_from_gives = { λ number rule. rule ≡ scored_rule_by number };
+
+    fn try_from(number: u8) -> Result<ScoredRule, Refused> {
         match number {
-            1 => ScoredRule::Cheapest,
-            _ => ScoredRule::Shortest,
+            0 => Ok(ScoredRule::Shortest),
+            1 => Ok(ScoredRule::Cheapest),
+            _ => Err(Refused::Unknown),
         }
     }
 }
 
-// 1 is the block side, any other number the defining side.
-pub(crate) fn side_by(number: u8) -> Side
+// The side that a number names.
+pub(crate) fn side_by(number: u8) -> Result<Side, Refused>
     ensures { result ≡ side_by number }
 {
     match number {
-        1 => Side::Block,
-        _ => Side::Defining,
+        0 => Ok(Side::Defining),
+        1 => Ok(Side::Block),
+        _ => Err(Refused::Unknown),
     }
 }
 

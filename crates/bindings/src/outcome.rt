@@ -2,7 +2,7 @@
 ghost use Rattle.std.specs.Prelude.{◌≡◌};
 ghost use Rattle.bindings.specs.Outcomes.{outcome_of};
 
-use contents::Refusal;
+use crate::refused::Refused;
 
 /// Refusal 0 and the answer, or the number of the refusal and 0: C has no Result.
 #[repr(C)]
@@ -13,14 +13,14 @@ pub struct Outcome {
 }
 
 // What a caller is told of an answer.
-impl From<Result<u64, Refusal>> for Outcome {
+impl From<Result<u64, Refused>> for Outcome {
     ghost from_gives = { λ answer outcome. outcome ≡ outcome_of answer };
 
-    fn from(answer: Result<u64, Refusal>) -> Outcome {
+    fn from(answer: Result<u64, Refused>) -> Outcome {
         match answer {
             Ok(value) => Outcome { refusal: 0, value },
-            Err(refusal) => Outcome {
-                refusal: u32::from(refusal.number()),
+            Err(refused) => Outcome {
+                refusal: u32::from(refused.number()),
                 value: 0,
             },
         }
@@ -28,10 +28,10 @@ impl From<Result<u64, Refusal>> for Outcome {
 }
 
 // The same of a length.
-impl From<Result<usize, Refusal>> for Outcome {
+impl From<Result<usize, Refused>> for Outcome {
     ghost from_gives = { λ answer outcome. outcome ≡ outcome_of answer };
 
-    fn from(answer: Result<usize, Refusal>) -> Outcome {
+    fn from(answer: Result<usize, Refused>) -> Outcome {
         Outcome::from(answer.map(|length| length as u64))
     }
 }

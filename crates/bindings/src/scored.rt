@@ -1,52 +1,63 @@
 // Scores, and generators with their scores.
 ghost use Rattle.std.specs.Prelude.{◌≡◌};
-ghost use Rattle.plan.specs.Answers.{chosen, chosen_scores};
 ghost use Rattle.planfile.specs.File.{read_file};
-ghost use Rattle.bindings.specs.Asked.{left_both, told_both};
-ghost use Rattle.bindings.specs.Numbers.{levels_by, scored_points, scored_relation, scored_rule_by, side_by};
+ghost use Rattle.bindings.specs.Asked.{left_scores, left_words, seen, told_both};
+ghost use Rattle.bindings.specs.Numbers.{at_levels};
 ghost use Rattle.bindings.specs.Outcomes.{outcome_of};
+ghost use Rattle.bindings.specs.Questions.{scored, scored_in};
 
 use crate::file::settle;
-use crate::numbers::{Costs, ScoredRule, side_by};
+use crate::made::MadeScored;
+use crate::numbers::{Costs, LevelCount, ScoredRule, side_by};
 use crate::outcome::Outcome;
-use contents::{Refusal, Side};
+use crate::refused::Refused;
+use contents::Side;
 use levels::Levels;
-use preferences::{Cheapest, Scored, Shortest};
+use preferences::{Cheapest, Shortest};
 
-// By any scored preference.
-//
-fn choose_scored<L: Levels, P: Scored<L>>(
+// By the preference of a scored rule.
+#[inline(never)]
+fn choose_scored<L: Levels, P: MadeScored<L>>(
     file: &[u8],
     side: Side,
-    preference: &P,
-    words: &mut [u64],
-    scores: &mut [u32],
-) -> Result<usize, Refusal>
-    ensures count { result ≡ told_both (read_file L.Levels.model file.now) (chosen L.Levels.model (P.Preference.good preference.now) side) words.old scores.old }
-    ensures words { words.new ≡ left_both (read_file L.Levels.model file.now) (chosen L.Levels.model (P.Preference.good preference.now) side) (chosen L.Levels.model (P.Preference.good preference.now) side) words.old scores.old words.old }
-    ensures scores { scores.new ≡ left_both (read_file L.Levels.model file.now) (chosen L.Levels.model (P.Preference.good preference.now) side) (chosen_scores L.Levels.model (P.Preference.good preference.now) (P.Scored.points preference.now) side) words.old scores.old scores.old }
-{
-    settle::<L>(file)?.choose_scored(side, preference, words, scores)
-}
-
-// By a scored rule and the costs that it may need.
-fn choose_scored_by<L: Levels>(
-    file: &[u8],
-    side: Side,
-    rule: ScoredRule,
     costs: [u16; 32],
     words: &mut [u64],
     scores: &mut [u32],
-) -> Result<usize, Refusal>
-    ensures count { result ≡ told_both (read_file L.Levels.model file.now) (chosen L.Levels.model (scored_relation L.Levels.model costs rule) side) words.old scores.old }
-    ensures words { words.new ≡ left_both (read_file L.Levels.model file.now) (chosen L.Levels.model (scored_relation L.Levels.model costs rule) side) (chosen L.Levels.model (scored_relation L.Levels.model costs rule) side) words.old scores.old words.old }
-    ensures scores { scores.new ≡ left_both (read_file L.Levels.model file.now) (chosen L.Levels.model (scored_relation L.Levels.model costs rule) side) (chosen_scores L.Levels.model (scored_relation L.Levels.model costs rule) (scored_points L.Levels.model costs rule) side) words.old scores.old scores.old }
+) -> Result<usize, Refused>
+    ensures count { let answer = scored L.model costs P.rule side in
+        let best = seen (read_file L.model file.now) answer in
+        result ≡ told_both best words.old scores.old }
+    ensures words { let answer = scored L.model costs P.rule side in
+        let best = seen (read_file L.model file.now) answer in
+        words.new ≡ left_words best words.old scores.old }
+    ensures scores { let answer = scored L.model costs P.rule side in
+        let best = seen (read_file L.model file.now) answer in
+        scores.new ≡ left_scores best words.old scores.old }
 {
-    match rule {
-        ScoredRule::Shortest => choose_scored::<L, _>(file, side, &Shortest, words, scores),
-        ScoredRule::Cheapest => {
-            choose_scored::<L, _>(file, side, &Cheapest::new(costs), words, scores)
-        }
+    let preference = P::made_scored(costs);
+    Ok(settle::<L>(file)?.choose_scored(side, &preference, words, scores)?)
+}
+
+// By the number of a scored preference and the costs that it may need.
+fn choose_scored_by<L: Levels>(
+    file: &[u8],
+    side: u8,
+    preference: u8,
+    costs: [u16; 32],
+    words: &mut [u64],
+    scores: &mut [u32],
+) -> Result<usize, Refused>
+    ensures count { let best = scored_in L.model file.now side preference costs in
+        result ≡ told_both best words.old scores.old }
+    ensures words { let best = scored_in L.model file.now side preference costs in
+        words.new ≡ left_words best words.old scores.old }
+    ensures scores { let best = scored_in L.model file.now side preference costs in
+        scores.new ≡ left_scores best words.old scores.old }
+{
+    let side = side_by(side)?;
+    match ScoredRule::try_from(preference)? {
+        ScoredRule::Shortest => choose_scored::<L, Shortest>(file, side, costs, words, scores),
+        ScoredRule::Cheapest => choose_scored::<L, Cheapest>(file, side, costs, words, scores),
     }
 }
 
@@ -61,15 +72,19 @@ pub extern "C" fn zorilla_choose_scored(
     words: &mut [u64],
     scores: &mut [u32],
 ) -> Outcome
-    ensures count { result ≡ outcome_of (told_both (read_file (levels_by levels) file.now) (chosen (levels_by levels) (scored_relation (levels_by levels) costs.now.table (scored_rule_by preference)) (side_by side)) words.old scores.old) }
-    ensures words { words.new ≡ left_both (read_file (levels_by levels) file.now) (chosen (levels_by levels) (scored_relation (levels_by levels) costs.now.table (scored_rule_by preference)) (side_by side)) (chosen (levels_by levels) (scored_relation (levels_by levels) costs.now.table (scored_rule_by preference)) (side_by side)) words.old scores.old words.old }
-    ensures scores { scores.new ≡ left_both (read_file (levels_by levels) file.now) (chosen (levels_by levels) (scored_relation (levels_by levels) costs.now.table (scored_rule_by preference)) (side_by side)) (chosen_scores (levels_by levels) (scored_relation (levels_by levels) costs.now.table (scored_rule_by preference)) (scored_points (levels_by levels) costs.now.table (scored_rule_by preference)) (side_by side)) words.old scores.old scores.old }
+    ensures count { let costs = costs.now.table in
+        let best = at_levels levels (λ A. scored_in A file.now side preference costs) in
+        result ≡ outcome_of (told_both best words.old scores.old) }
+    ensures words { let costs = costs.now.table in
+        let best = at_levels levels (λ A. scored_in A file.now side preference costs) in
+        words.new ≡ left_words best words.old scores.old }
+    ensures scores { let costs = costs.now.table in
+        let best = at_levels levels (λ A. scored_in A file.now side preference costs) in
+        scores.new ≡ left_scores best words.old scores.old }
 {
-    let side = side_by(side);
-    let rule = ScoredRule::from(preference);
     by_levels!(
         levels,
-        choose_scored_by(file, side, rule, costs.table, words, scores)
+        choose_scored_by(file, side, preference, costs.table, words, scores)
     )
     .into()
 }

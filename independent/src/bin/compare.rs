@@ -183,23 +183,55 @@ fn costs(draw: &mut Draw) -> Costs {
     Costs { table }
 }
 
-fn side_number(draw: &mut Draw, side: Side) -> u8 {
-    match side {
-        Side::Block => 1,
-        Side::Defining => [0, 0, 0, 2, 255][draw.index(5)],
-    }
-}
-
-fn preference_number(preference: Preference) -> u8 {
-    PREFERENCES.iter().position(|&other| other == preference).unwrap() as u8
-}
-
-fn levels_of(number: u8) -> u8 {
-    if number == 3 {
-        3
+/// A number from `known` up, which stands for nothing, but now and then only; else the number itself.
+fn number_or_unknown(draw: &mut Draw, number: usize, known: u64) -> u8 {
+    if draw.once_in(20) {
+        draw.from_to(known, 255) as u8
     } else {
-        2
+        number as u8
     }
+}
+
+fn side_number(draw: &mut Draw, side: Side) -> u8 {
+    number_or_unknown(draw, usize::from(side == Side::Block), 2)
+}
+
+fn side_by(number: u8) -> Result<Side, u32> {
+    match number {
+        0 => Ok(Side::Defining),
+        1 => Ok(Side::Block),
+        _ => Err(rules::UNKNOWN),
+    }
+}
+
+fn preference_by(number: u8) -> Result<Preference, u32> {
+    PREFERENCES.get(usize::from(number)).copied().ok_or(rules::UNKNOWN)
+}
+
+/// The score of a word by the number of a scored preference.
+fn score_by(number: u8) -> Result<fn(&[u16; 32], &rules::Word) -> u32, u32> {
+    match number {
+        0 => Ok(|_, word| rules::length(word) as u32),
+        1 => Ok(|costs, word| rules::cost(costs, word) as u32),
+        _ => Err(rules::UNKNOWN),
+    }
+}
+
+fn levels_by(number: u8) -> Result<u8, u32> {
+    match number {
+        2 | 3 => Ok(number),
+        _ => Err(rules::UNKNOWN),
+    }
+}
+
+/// A number that stands for no levels.
+fn unknown_levels(draw: &mut Draw) -> u8 {
+    [0, 1, 4, 22, 255][draw.index(5)]
+}
+
+/// The levels to draw codes of: those of a number, or two.
+fn levels_of(number: u8) -> u8 {
+    levels_by(number).unwrap_or(2)
 }
 
 fn page_of(file: &[u8]) -> Result<Vec<u8>, u32> {
@@ -231,25 +263,27 @@ fn changes(t: &mut Tally, draw: &mut Draw, levels: u8, plan: &Result<Plan, u32>)
     let room = lent(draw, t.dear, length_of(&started), |x| x as u8);
     t.memory("start", || format!("start {anew}, levels {levels}"), &room, |memory| library::start(levels, &file, anew, memory), with_length(started));
 
-    for side in [Side::Defining, Side::Block] {
-        let number = side_number(draw, side);
+    for drawn in [Side::Defining, Side::Block] {
+        let number = side_number(draw, drawn);
+        let side = side_by(number);
+        let asked = side.and(plan.clone());
         let code = match plan {
             Ok(plan) if draw.once_in(4) => plan.code(plan.all.iter().nth(draw.index(plan.all.len())).unwrap()),
             _ => some_code(draw, s, n),
         };
-        let admitted = plan.clone().and_then(|plan| plan.admit(side, code)).map(|plan| plan.file());
+        let admitted = asked.clone().and_then(|plan| plan.admit(side?, code)).map(|plan| plan.file());
         let room = lent(draw, t.dear, length_of(&admitted), |x| x as u8);
         let what = || format!("admit {code} on side {number}, levels {levels}");
         t.memory("admit", what, &room, |memory| library::admit(levels, &file, number, code, memory), with_length(admitted));
 
-        let words = plan.as_ref().map_or(3, |plan| plan.list(side).len());
+        let words = plan.as_ref().map_or(3, |plan| plan.list(drawn).len());
         let place = if draw.once_in(20) { usize::MAX } else { draw.index(words + 2) };
-        let struck = plan.clone().and_then(|plan| plan.strike(side, place)).map(|plan| plan.file());
+        let struck = asked.clone().and_then(|plan| plan.strike(side?, place)).map(|plan| plan.file());
         let room = lent(draw, t.dear, length_of(&struck), |x| x as u8);
         let what = || format!("strike {place} on side {number}, levels {levels}");
         t.memory("strike", what, &room, |memory| library::strike(levels, &file, number, place, memory), with_length(struck));
 
-        let list = plan.as_ref().map(|plan| plan.list(side).clone()).map_err(|&e| e);
+        let list = asked.and_then(|plan| Ok(plan.list(side?).clone()));
         let what = || format!("count of side {number}, levels {levels}");
         t.number("counts", what, library::count(levels, &file, number), list.clone().map(|list| list.len() as u64));
         let word = list.and_then(|list| match place.checked_sub(1).and_then(|i| list.get(i)) {
@@ -267,38 +301,35 @@ fn choices(t: &mut Tally, draw: &mut Draw, levels: u8, plan: &Result<Plan, u32>)
     let file = t.file.clone();
     let s = levels_of(levels);
     for side in [Side::Defining, Side::Block] {
-        for preference in PREFERENCES {
+        for preference in 0..PREFERENCES.len() {
             let costs = costs(draw);
             let side_number = side_number(draw, side);
-            let number = preference_number(preference);
-            let chosen = plan.as_ref().map(|plan| plan.choose(side, preference, &costs.table)).map_err(|&e| e);
+            let number = number_or_unknown(draw, preference, PREFERENCES.len() as u64);
+            let chosen = side_by(side_number).and_then(|side| {
+                let preference = preference_by(number)?;
+                plan.as_ref().map(|plan| plan.choose(side, preference, &costs.table)).map_err(|&e| e)
+            });
             let room = lent(draw, t.dear, length_of(&chosen), |x| x);
             let what = || format!("choose on side {side_number} by {number} with {costs:?}, levels {levels}");
             let call = |memory: &mut [u64]| library::choose(levels, &file, side_number, number, &costs, memory);
             t.memory("choose", what, &room, call, with_length(chosen.clone()));
 
-            if preference != Preference::Shortest && preference != Preference::Cheapest {
-                continue;
-            }
             let before = (lent(draw, t.dear, length_of(&chosen), |x| x), lent(draw, t.dear, length_of(&chosen), |x| x as u32));
             let mut now = before.clone();
             let ours = library::choose_scored(levels, &file, side_number, number, &costs, &mut now.0, &mut now.1);
             let mut then = before.clone();
-            let theirs = match (chosen, plan) {
-                (Ok(words), Ok(plan)) if words.len() <= then.0.len() && words.len() <= then.1.len() => {
-                    for (i, &word) in words.iter().enumerate() {
-                        let digits = rules::digits(s, plan.n, word).unwrap();
-                        then.0[i] = word;
-                        then.1[i] = match preference {
-                            Preference::Shortest => rules::length(&digits) as u32,
-                            _ => rules::cost(&costs.table, &digits) as u32,
-                        };
-                    }
-                    Ok(words.len() as u64)
+            let theirs = score_by(number).and_then(|score| {
+                let words = chosen?;
+                if words.len() > then.0.len() || words.len() > then.1.len() {
+                    return Err(rules::MEMORY);
                 }
-                (Ok(_), _) => Err(rules::MEMORY),
-                (Err(refusal), _) => Err(refusal),
-            };
+                for (i, &word) in words.iter().enumerate() {
+                    let digits = rules::digits(s, 32, word).unwrap();
+                    then.0[i] = word;
+                    then.1[i] = score(&costs.table, &digits);
+                }
+                Ok(words.len() as u64)
+            });
             let what = || format!("choose scored on side {side_number} by {number} with {costs:?}, levels {levels}, memory {before:?}");
             t.compare("choose scored", what, theirs.is_err(), (ours, now), (theirs, then));
         }
@@ -306,7 +337,7 @@ fn choices(t: &mut Tally, draw: &mut Draw, levels: u8, plan: &Result<Plan, u32>)
 }
 
 fn verdicts(t: &mut Tally, draw: &mut Draw) {
-    let levels = [2, 3, 2, 3, 0, 9][draw.index(6)];
+    let levels = if draw.once_in(12) { unknown_levels(draw) } else { draw.from_to(2, 3) as u8 };
     let s = levels_of(levels);
     let n = if draw.once_in(12) { draw.below(40) as u8 } else { draw.from_to(1, 7) as u8 };
     let count = if draw.once_in(10) { rules::limit(s) - 1 + draw.index(3) } else { draw.index(5) };
@@ -319,14 +350,14 @@ fn verdicts(t: &mut Tally, draw: &mut Draw) {
         base[at] = some_code(draw, s, n);
     }
     for _ in 0..4 {
-        for preference in PREFERENCES {
+        for preference in 0..PREFERENCES.len() {
             let costs = costs(draw);
             let (a, b) = (some_code(draw, s, n), some_code(draw, s, n));
-            let number = preference_number(preference);
+            let number = number_or_unknown(draw, preference, PREFERENCES.len() as u64);
             let ours = library::verdict(levels, number, &costs, n, &base, a, b);
-            let theirs = rules::verdict(s, preference, &costs.table, n, &base, a, b);
+            let theirs = levels_by(levels).and_then(|s| Ok(rules::verdict(s, preference_by(number)?, &costs.table, n, &base, a, b)));
             let what = || format!("verdict by {number} with {costs:?} on {a} and {b}, {n} factors, base {base:?}, levels {levels}");
-            t.compare("verdict", what, false, ours, theirs);
+            t.compare("verdict", what, theirs.is_err(), ours, theirs);
         }
     }
 }
@@ -416,12 +447,12 @@ fn small(t: &mut Tally, draw: &mut Draw) {
     let words = draw.index(most).max(draw.index(most)).min(n as usize);
     let plan = some_plan(draw, s, n, words);
     t.file = if draw.once_in(4) { damaged(draw, &plan) } else { plan.file() };
-    let levels = match draw.below(12) {
-        0 => [0, 1, 2, 3, 4, 255][draw.index(6)],
-        _ if s == 3 => 3,
-        _ => [2, 2, 2, 0, 77][draw.index(5)],
+    let levels = match draw.below(20) {
+        0 => 5 - s,
+        1 => unknown_levels(draw),
+        _ => s,
     };
-    let read = Plan::read(levels_of(levels), &t.file);
+    let read = levels_by(levels).and_then(|s| Plan::read(s, &t.file));
     pages(t, draw);
     changes(t, draw, levels, &read);
     choices(t, draw, levels, &read);
