@@ -6,6 +6,7 @@ ghost use Rattle.preferences.specs.Sums.{AreSums, mask_bits, mask_order, used};
 ghost use Rattle.std.proofs.Common.{rules};
 
 use crate::preference::{Preference, Scored, Verdict, smaller};
+use crate::sum::Sum;
 use levels::{Levels, Span};
 
 // No word has more factors.
@@ -72,6 +73,12 @@ impl<L: Levels> Preference<L> for Cheapest {
     #[inline]
     fn prefer(&self, _base: &Span<L>, a: u64, b: u64) -> Verdict {
         smaller(u64::from(self.total::<L>(a)), u64::from(self.total::<L>(b)))
+    }
+
+    #[inline]
+    fn prefer_to_sum(&self, _base: &Span<L>, word: u64, sum: Sum) -> Verdict {
+        let other = self.total::<L>(sum.places());
+        smaller(u64::from(self.total::<L>(word)), u64::from(other))
     }
 }
 
