@@ -15,8 +15,8 @@ use Rattle.preferences.specs.declared.candidate.Candidate.{Candidate}
 use Rattle.choice.specs.declared.judge.Judge.{Judge}
 use Rattle.choice.specs.declared.best.Best.{Best}
 use Rattle.choice.specs.declared.progress.Progress.{Progress}
-use Rattle.choice.specs.declared.leaves.Leaves.{Leaves}
-use Rattle.choice.specs.Leaves.{AllOpposite, leaf_words}
+use Rattle.levels.specs.declared.opposites.Leaves.{Leaves}
+use Rattle.levels.specs.Leaves.{AllOpposite, leaf_words}
 use Rattle.choice.specs.Chosen.{chosen_words}
 use Rattle.choice.specs.Search.{Below, Fits, Kept, Leaf, Least, LedAt, NoLater, Offered, keep, sieve}
 

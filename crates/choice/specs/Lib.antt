@@ -2,4 +2,3 @@ pub mod Choice
 pub mod Chosen
 pub mod Judged
 pub mod Search
-pub mod Leaves

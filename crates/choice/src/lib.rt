@@ -8,7 +8,6 @@ ghost use Rattle.choice.specs.Chosen.{chosen_words};
 mod best;
 pub mod chosen;
 mod judge;
-mod leaves;
 mod progress;
 mod walk;
 

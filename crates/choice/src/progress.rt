@@ -6,15 +6,15 @@ ghost use Rattle.bounded.specs.Items.{items_of};
 ghost use Rattle.levels.specs.Space.{Word};
 ghost use Rattle.levels.specs.Words.{word_sum};
 ghost use Rattle.preferences.specs.Candidates.{IsSum};
-ghost use Rattle.choice.specs.Leaves.{leaf_words};
+ghost use Rattle.levels.specs.Leaves.{leaf_words};
 ghost use Rattle.choice.specs.Search.{Coset, NoLater};
 
 use crate::best::Best;
 use crate::chosen::MOST;
 use crate::judge::Judge;
-use crate::leaves::Leaves;
 use bounded::Bounded;
 use levels::Levels;
+use levels::opposites::Leaves;
 use preferences::{Candidate, Preference, Sum};
 
 // The alias sets of so few rows are small.
@@ -190,8 +190,8 @@ impl<'a, L: Levels, P: Preference<L>> Judge<'a, L, P> {
             let word = last.now.word in
             IfNone result (AllBehind L.model P.good self.now word words start first (length words)) }
     {
-        for place in first..leaves.len() {
-            if !self.precedes_next_sum(last, leaves.sum(start, place)) {
+        for place in first..leaves.words().len() {
+            if !self.precedes_next_sum(last, sum_at(leaves, start, place)) {
                 return Some(place);
             }
         }
@@ -231,5 +231,21 @@ impl<'a, L: Levels, P: Preference<L>> Judge<'a, L, P> {
                 self.first_ahead(&last, leaves, first, start)
             }
         }
+    }
+}
+
+// The sum of a start and the leaf at a place.
+#[inline]
+pub(crate) fn sum_at(leaves: &Leaves, start: u64, place: usize) -> Sum
+    requires place { place < length (leaf_words leaves.now) }
+    requires many { length (items_of leaves.now.opposites) ≡ length (leaf_words leaves.now) }
+    ensures first { result.first ≡ start }
+    ensures second { result.second ≡ slice_index (leaf_words leaves.now) place }
+    ensures opposite { result.opposite ≡ slice_index (items_of leaves.now.opposites) place }
+{
+    Sum {
+        first: start,
+        second: leaves.words()[place],
+        opposite: leaves.opposites()[place],
     }
 }

@@ -3,14 +3,14 @@ ghost use Rattle.std.specs.Prelude.{◌++◌, []};
 ghost use Rattle.std.specs.Bool.{OnTrue};
 ghost use Rattle.preferences.specs.Relation.{EqualAliases};
 ghost use Rattle.choice.specs.Chosen.{chosen_words};
-ghost use Rattle.choice.specs.Leaves.{leaf_words};
+ghost use Rattle.levels.specs.Leaves.{leaf_words};
 ghost use Rattle.choice.specs.Search.{Coset, Led, Offered, OneOf, Spread};
 
 use crate::chosen::Chosen;
 use crate::judge::Judge;
-use crate::leaves::Leaves;
-use crate::progress::{Progress, SMALL};
+use crate::progress::{Progress, SMALL, sum_at};
 use levels::Levels;
+use levels::opposites::Leaves;
 use levels::span::list_sums;
 use preferences::Preference;
 
@@ -75,13 +75,13 @@ impl<'a, L: Levels, P: Preference<L>> Judge<'a, L, P> {
             OfferedTo L.model P.good self.now sums (words_of progress.old) progress.new }
     {
         let mut next = 0;
-        while next < leaves.len() {
+        while next < leaves.words().len() {
             match self.next_ahead(progress, leaves, next, start) {
                 Some(place) => {
-                    self.offer(progress, leaves.sum(start, place).word::<L>());
+                    self.offer(progress, sum_at(leaves, start, place).word::<L>());
                     next = place + 1;
                 }
-                None => next = leaves.len(),
+                None => next = leaves.words().len(),
             }
         }
     }

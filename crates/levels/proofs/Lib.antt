@@ -14,6 +14,8 @@ pub mod Places
 pub mod Reduced
 pub mod Sets
 pub mod Shorter
+pub mod Apart
+pub mod Beside
 pub mod Space
 pub mod Theory
 pub mod Units

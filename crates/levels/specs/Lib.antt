@@ -1,4 +1,5 @@
 pub mod Alias
+pub mod Leaves
 pub mod Arithmetic
 pub mod Basis
 pub mod Generated

@@ -5,6 +5,7 @@
 
 pub mod arithmetic;
 pub mod basis;
+pub mod opposites;
 pub mod span;
 pub mod theorems;
 pub mod three;

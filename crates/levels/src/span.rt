@@ -4,9 +4,12 @@ ghost use Rattle.bounded.specs.Items.{items_of};
 ghost use Rattle.levels.specs.Space.{AllWords, Word};
 ghost use Rattle.levels.specs.Words.{legal, word_sum};
 ghost use Rattle.levels.specs.Generated.{combinations};
+ghost use Rattle.std.proofs.Props.{props};
+ghost use Rattle.levels.specs.Leaves.{AllOpposite, leaf_words};
 ghost use Rattle.levels.specs.Alias.{Adds, aliases, any_shorter, tallied, with_multiples, with_all_multiples};
 
 use crate::arithmetic::Levels;
+use crate::opposites::Leaves;
 use bounded::Bounded;
 use std::marker::PhantomData;
 
@@ -28,10 +31,11 @@ pub struct Span<'a, L: Levels> {
     factors: u8,
     words: &'a [u64],
     before: &'a [u64],
-    sums: Sums,
+    leaves: Leaves,
     levels: PhantomData<L>,
     ghost whole: { before.now ++ drop (length before.now) words.now ≡ words.now },
-    ghost listed: { items_of sums ≡ combinations L.Levels.model factors (drop (length before.now) words.now) },
+    ghost listed: { leaf_words leaves ≡ combinations L.model factors (drop (length before.now) words.now) },
+    ghost opposites: { AllOpposite L.model factors leaves } by { Prim.hlevel props },
 }
 
 impl<'a, L: Levels> Span<'a, L> {
@@ -45,7 +49,7 @@ impl<'a, L: Levels> Span<'a, L> {
             factors,
             words,
             before,
-            sums,
+            leaves: Leaves::new::<L>(factors, sums),
             levels: PhantomData,
         }
     }
@@ -72,7 +76,7 @@ impl<'a, L: Levels> Span<'a, L> {
         let n = self.factors;
         let mut counts = [0; LENGTHS];
         if L::legal(n, start) {
-            count::<L>(n, self.before, self.sums.as_slice(), start, &mut counts);
+            count::<L>(n, self.before, &self.leaves, start, &mut counts);
         }
         counts
     }
@@ -85,7 +89,7 @@ impl<'a, L: Levels> Span<'a, L> {
             result ≡ (legal L.model n start && any_shorter L.model bound all) }
     {
         let n = self.factors;
-        L::legal(n, start) && shorter::<L>(n, self.before, self.sums.as_slice(), start, bound)
+        L::legal(n, start) && shorter::<L>(n, self.before, &self.leaves, start, bound)
     }
 }
 
@@ -130,16 +134,18 @@ fn spread<L: Levels>(n: u8, word: u64, sums: &mut Sums)
 // Counts the sums of a start, the multiples of words and a leaf. A type for legal words, or for words, leaves and start
 // together, would carry the factors too, and the contract would ask that these are n instead. Not of a `Span`: it goes on
 // with the rest of the words.
-fn count<L: Levels>(n: u8, words: &[u64], leaves: &[u64], start: u64, counts: &mut Tally)
+fn count<L: Levels>(n: u8, words: &[u64], leaves: &Leaves, start: u64, counts: &mut Tally)
     requires start { Word L.Levels.model n start }
-    requires legal { AllWords L.Levels.model n leaves.now }
+    requires legal { AllWords L.model n (leaf_words leaves.now) }
+    requires opposites { AllOpposite L.model n leaves.now }
     requires fit { (i : ℕ) → i < 33 → slice_index counts.old i < 2 ^ 64 }
-    ensures { Adds L.Levels.model (map (word_sum L.Levels.model n start) (with_all_multiples L.Levels.model n words.now leaves.now)) counts.old counts.new }
+    ensures { let sums = with_all_multiples L.model n words.now (leaf_words leaves.now) in
+        Adds L.model (map (word_sum L.model n start) sums) counts.old counts.new }
 {
     match words {
         [] => {
-            for leaf in leaves {
-                let length = usize::from(L::length(L::add(start, *leaf)));
+            for opposite in leaves.opposites() {
+                let length = usize::from(L::length(start ^ *opposite));
                 counts[length] = counts[length].wrapping_add(1);
             }
         }
@@ -158,16 +164,17 @@ fn count<L: Levels>(n: u8, words: &[u64], leaves: &[u64], start: u64, counts: &m
 }
 
 // Whether a sum of a start, multiples of words and a leaf is shorter than a bound.
-fn shorter<L: Levels>(n: u8, words: &[u64], leaves: &[u64], start: u64, bound: u8) -> bool
+fn shorter<L: Levels>(n: u8, words: &[u64], leaves: &Leaves, start: u64, bound: u8) -> bool
     requires start { Word L.model n start }
-    requires legal { AllWords L.model n leaves.now }
-    ensures { let sums = with_all_multiples L.model n words.now leaves.now in
+    requires legal { AllWords L.model n (leaf_words leaves.now) }
+    requires opposites { AllOpposite L.model n leaves.now }
+    ensures { let sums = with_all_multiples L.model n words.now (leaf_words leaves.now) in
         result ≡ any_shorter L.model bound (map (word_sum L.model n start) sums) }
 {
     match words {
         [] => {
-            for leaf in leaves {
-                if L::length(L::add(start, *leaf)) < bound {
+            for opposite in leaves.opposites() {
+                if L::length(start ^ *opposite) < bound {
                     return true;
                 }
             }

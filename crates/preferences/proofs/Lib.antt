@@ -3,4 +3,4 @@ pub mod Tables
 pub mod Tallies
 pub mod Masks
 pub mod Aliases
-pub mod Apart
+pub mod Places

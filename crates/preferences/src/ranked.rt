@@ -26,7 +26,7 @@ impl<L: Levels, P: Preference<L>, Q: Preference<L>> Preference<L> for FirstThenS
         self.first.equates_aliases() && self.second.equates_aliases()
     }
 
-    #[inline]
+    #[inline(always)]
     fn prefer(&self, base: &Span<L>, a: u64, b: u64) -> Verdict {
         match self.first.prefer(base, a, b) {
             Verdict::Equal => self.second.prefer(base, a, b),
@@ -34,7 +34,7 @@ impl<L: Levels, P: Preference<L>, Q: Preference<L>> Preference<L> for FirstThenS
         }
     }
 
-    #[inline]
+    #[inline(always)]
     fn prefer_to_sum(&self, base: &Span<L>, word: u64, sum: Sum) -> Verdict {
         match self.first.prefer_to_sum(base, word, sum) {
             Verdict::Equal => self.second.prefer_to_sum(base, word, sum),
@@ -47,7 +47,7 @@ impl<L: Levels, P: Preference<L>, Q: Preference<L>> Preference<L> for FirstThenS
         self.first.ready(base, word)
     }
 
-    #[inline]
+    #[inline(always)]
     fn prefer_ready(&self, base: &Span<L>, a: &Candidate, b: &Candidate) -> Verdict {
         match self.first.prefer_ready(base, a, b) {
             Verdict::Equal => self.second.prefer_ready(base, a, b),

@@ -8,7 +8,7 @@ use Rattle.choice.specs.Search.{Least}
 use Rattle.choice.proofs.Least.{least_sum, least_multiple, rest_least, shared_echelon}
 use Rattle.choice.proofs.Sums.{next_start}
 use Rattle.choice.proofs.Offers.{none_below, spread_more, words_head}
-use Rattle.choice.specs.Leaves.{leaf_words}
+use Rattle.levels.specs.Leaves.{leaf_words}
 use Rattle.choice.proofs.judge.Judge.+offer_over_leaves.Goals as goal
 
 -- at first, none

@@ -2,7 +2,7 @@ use Rattle.std.proofs.Common.{length}
 use Rattle.levels.specs.Words.{word_sum, word_multiple}
 use Rattle.choice.specs.Search.{Below, Spread}
 use Rattle.choice.specs.Judged.{OfferedTo, shared_rows, words_of}
-use Rattle.choice.specs.Leaves.{leaf_words}
+use Rattle.levels.specs.Leaves.{leaf_words}
 use Rattle.choice.proofs.judge.Judge.+offer_over_leaves.Given as goal
 
 abbrev pub decreases-offer_over_leaves : goal.decreases-offer_over_leaves

@@ -1,5 +1,5 @@
 use Rattle.choice.specs.Judged.{AllBehind}
-use Rattle.choice.specs.Leaves.{leaf_words}
+use Rattle.levels.specs.Leaves.{leaf_words}
 use Rattle.choice.proofs.judge.Judge.first_ahead.Given as goal
 
 -- the sums with the leaves so far stand behind

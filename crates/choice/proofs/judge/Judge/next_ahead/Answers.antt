@@ -4,7 +4,7 @@ use Rattle.levels.specs.Rows.{basis_rows}
 use Rattle.preferences.specs.declared.candidate.Candidate.{Candidate}
 use Rattle.choice.specs.Judged.{Beside, words_of}
 use Rattle.choice.proofs.Least.{none_ahead, first_found}
-use Rattle.choice.specs.Leaves.{leaf_words}
+use Rattle.levels.specs.Leaves.{leaf_words}
 use Rattle.choice.proofs.judge.Judge.next_ahead.Goals as goal
 
 -- the sums before the first that is ahead change nothing

@@ -3,9 +3,7 @@ use Rattle.std.proofs.Common.{ℕ, List, ap, ◌≡◌, ◌++◌, length, drop, 
 use Rattle.levels.specs.Rows.{basis_rows}
 use Rattle.levels.specs.Generated.{combinations}
 use Rattle.levels.proofs.Reduced.{space_at}
-use Rattle.levels.specs.Space.{AllWords}
-use Rattle.levels.proofs.Leaves.{combinations_words}
-use Rattle.choice.specs.Leaves.{leaf_words}
+use Rattle.levels.specs.Leaves.{leaf_words}
 use Rattle.choice.specs.Search.{Coset, Spread}
 use Rattle.choice.specs.Judged.{order_of, OfferedTo, shared_rows, words_of}
 use Rattle.choice.proofs.Greedy.{judged_order}
@@ -20,13 +18,6 @@ offer_over_leaves-requires-clause-words g c =
     let A = g.L.Levels.model in
     let s = c.args.self.now in
     front_least A g.met.L.Levels.lawful s.factors (shared_rows s) (shared_echelon A s.factors (basis_rows s.known) s.alike s.echelon) c.args.rows.now c.list_sums.result.0.now c.list_sums.ensures.words c.requires.rows
-
--- the sums of rows are words
-pub new-leaves-requires-clause-words : goal.new-leaves-requires-clause-words
-new-leaves-requires-clause-words g c =
-    let A = g.L.Levels.model in
-    let n = c.args.self.now.factors in
-    subst (AllWords A n) (sym c.list_sums.ensures.sums) (combinations_words A g.met.L.Levels.lawful n (drop (length c.list_sums.result.0.now) c.args.rows.now) c.args.start c.requires.start.word)
 
 -- the leaves are these
 pub offer_over_leaves-requires-clause-leaves : goal.offer_over_leaves-requires-clause-leaves

@@ -1,7 +1,7 @@
 use Rattle.std.proofs.Common.{◌-◌, ◌≤◌, length}
 use Rattle.choice.specs.Search.{Below, Leaf}
 use Rattle.choice.specs.Judged.{OfferedTo, shared_rows, words_of}
-use Rattle.choice.specs.Leaves.{leaf_words}
+use Rattle.levels.specs.Leaves.{leaf_words}
 use Rattle.choice.proofs.judge.Judge.offer_leaves.Given as goal
 
 -- the sums with the leaves before the next were offered

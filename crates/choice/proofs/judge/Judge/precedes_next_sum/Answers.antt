@@ -3,7 +3,7 @@ use Rattle.std.specs.Bool.{OnTrue, OnFalse}
 use Rattle.levels.specs.Space.{Word}
 use Rattle.levels.specs.Words.{word_sum}
 use Rattle.levels.proofs.Lengths.{sum_code}
-use Rattle.preferences.proofs.Apart.{sum_is_one}
+use Rattle.levels.proofs.Apart.{sum_is_one}
 use Rattle.choice.specs.Search.{NoLater}
 use Rattle.choice.specs.Judged.{order_of}
 use Rattle.choice.proofs.judge.Judge.precedes_next_sum.Goals as goal

@@ -2,7 +2,7 @@ use Rattle.std.proofs.Common.{rules, ◌≡◌, ℕ, sym, ap, ◌∙◌, subst}
 use Rattle.levels.specs.Words.{word_sum}
 use Rattle.levels.specs.Space.{Word}
 use Rattle.levels.proofs.Lengths.{sum_code}
-use Rattle.preferences.proofs.Apart.{sum_is_one}
+use Rattle.levels.proofs.Apart.{sum_is_one}
 use Rattle.choice.specs.Search.{first_stands}
 use Rattle.choice.proofs.judge.Judge.precedes_sum.Goals.{then-self, else-self}
 use Rattle.choice.proofs.judge.Judge.precedes_sum.Goals as goal

@@ -8,7 +8,7 @@ use Rattle.levels.proofs.Generation.{generates_word}
 use Rattle.levels.proofs.Leaves.{combinations_words}
 use Rattle.levels.proofs.Reduced.{space_at}
 use Rattle.levels.proofs.Space.{vector_space}
-use Rattle.choice.specs.Leaves.{leaf_words}
+use Rattle.levels.specs.Leaves.{leaf_words}
 use Rattle.choice.specs.Search.{Least, OneOf, Spread}
 use Rattle.choice.proofs.Least.{drop_least, front_least, least_leaf, least_sums, part_least, shared_echelon}
 use Rattle.choice.specs.Judged.{shared_rows, words_of}
@@ -116,17 +116,6 @@ offer_leaves-requires-clause-leaves g c =
           (get_or before i 0) row.word (c.new-leaves.ensures.words ∙ c.list_sums.ensures.sums);
       opposites = c.new-leaves.ensures.opposites;
     }
-
--- the listed sums are words
-pub new-leaves-requires-clause-words : goal.new-leaves-requires-clause-words
-new-leaves-requires-clause-words g c =
-    let A = g.L.Levels.model in
-    let s = c.args.self.now in
-    let rows = c.rows-then-from-le-SMALL.result.now in
-    let part = take (length rows - c.shared-from.result) (drop c.shared-from.result rows) in
-    let some : 0 < length (basis_rows s.whole) = omega (arith, c.if-self-gt0.true, s.space) in
-    subst (AllWords A s.factors) (sym c.list_sums.ensures.sums)
-    (combinations_words A g.met.L.Levels.lawful s.factors (drop (length c.list_sums.result.0.now) part) (get_or (basis_rows s.whole) 0 0) (s.all.words 0 some))
 
 -- one start more
 pub loop-row-preserved : goal.loop-row-preserved

@@ -1,6 +1,7 @@
 use Rattle.std.proofs.Common.{◌≡◌, ◌^◌, ◌<◌, get_or, replicate, drop, length, sym, ◌∙◌, subst, arith}
 use Rattle.std.proofs.lemmas.List.{get_or-replicate}
 use Rattle.levels.specs.Alias.{Adds}
+use Rattle.levels.specs.Leaves.{leaf_words}
 use Rattle.levels.proofs.Leaves.{all_aliases, sums_words, no_tally, tally_from}
 use Rattle.levels.proofs.span.Span.tally.Goals as goal
 
@@ -8,8 +9,8 @@ use Rattle.levels.proofs.span.Span.tally.Goals as goal
 pub count-requires-clause-legal : goal.count-requires-clause-legal
 count-requires-clause-legal g c =
     let span = c.args.self.now in
-    sums_words g.L.Levels.model g.met.L.Levels.lawful span.factors (drop (length span.before.now) span.words.now) c.as_slice.result.now c.args.start
-    (c.as_slice.ensures ∙ span.listed) (sym c.if-legal.ensures)
+    sums_words g.L.Levels.model g.met.L.Levels.lawful span.factors (drop (length span.before.now) span.words.now) (leaf_words span.leaves) c.args.start
+    span.listed (sym c.if-legal.ensures)
 
 -- all counts are 0
 pub count-requires-clause-fit : goal.count-requires-clause-fit
@@ -23,7 +24,7 @@ returns-then-legal g c =
     let A = g.L.Levels.model in
     let L = g.met.L.Levels.lawful in
     let span = c.args.self.now in
-    let all = all_aliases A L span.factors span.words.now span.before.now c.as_slice.result.now c.args.start span.whole (c.as_slice.ensures ∙ span.listed) in
+    let all = all_aliases A L span.factors span.words.now span.before.now (leaf_words span.leaves) c.args.start span.whole span.listed in
     tally_from A L span.factors span.words.now c.args.start c.count.new.counts (sym c.if-legal.ensures)
     (subst (λ xs. Adds A xs (replicate 33 0) c.count.new.counts) all c.count.ensures)
 

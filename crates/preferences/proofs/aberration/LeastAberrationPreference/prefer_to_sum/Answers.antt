@@ -6,7 +6,7 @@ use Rattle.levels.proofs.Lengths.{sum_code}
 use Rattle.preferences.specs.Built.{least_aberration}
 use Rattle.preferences.specs.Counts.{lengths_of_words}
 use Rattle.preferences.specs.Verdicts.{verdict_of}
-use Rattle.preferences.proofs.Apart.{apart_length, sum_is_one}
+use Rattle.levels.proofs.Apart.{apart_length, sum_is_one}
 use Rattle.preferences.proofs.aberration.LeastAberrationPreference.prefer_to_sum.Goals as goal
 
 -- without base words the lengths decide

@@ -2,7 +2,8 @@ use Rattle.std.proofs.Common.{◌≡◌, ℕ, ap, ◌∙◌}
 use Rattle.levels.specs.Words.{digits, word_sum}
 use Rattle.levels.specs.Space.{Word}
 use Rattle.preferences.specs.Built.{cost}
-use Rattle.preferences.proofs.Apart.{apart_cost, sum_is_one}
+use Rattle.levels.proofs.Apart.{sum_is_one}
+use Rattle.preferences.proofs.Places.{apart_cost}
 use Rattle.preferences.proofs.Tables.{score_word}
 use Rattle.preferences.proofs.cheapest.CheapestPreference.prefer_to_sum.Goals as goal
 

@@ -3,7 +3,7 @@ use Rattle.levels.specs.Space.{Word}
 use Rattle.levels.specs.Words.{word_sum}
 use Rattle.levels.proofs.Lengths.{sum_code}
 use Rattle.preferences.specs.Verdicts.{verdict_of}
-use Rattle.preferences.proofs.Apart.{sum_is_one}
+use Rattle.levels.proofs.Apart.{sum_is_one}
 use Rattle.preferences.proofs.preference.Preference.prefer_to_sum.Goals as goal
 
 -- the sum is a word

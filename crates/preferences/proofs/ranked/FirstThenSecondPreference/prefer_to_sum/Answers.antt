@@ -4,7 +4,7 @@ use Rattle.levels.specs.Space.{Word}
 use Rattle.levels.specs.Words.{word_sum}
 use Rattle.preferences.specs.declared.preference.Verdict.TheVariants.{Equal}
 use Rattle.preferences.specs.Verdicts.{verdict_of}
-use Rattle.preferences.proofs.Apart.{sum_is_one}
+use Rattle.levels.proofs.Apart.{sum_is_one}
 use Rattle.preferences.proofs.ranked.FirstThenSecondPreference.prefer_to_sum.Goals as goal
 
 -- where the first finds the words equal, and one of them is at least as good, both are

@@ -3,7 +3,7 @@ use Rattle.std.proofs.lemmas.Bool.{cond-true}
 use Rattle.levels.specs.Words.{legal, word_length, word_sum}
 use Rattle.preferences.specs.Built.{length_score}
 use Rattle.preferences.specs.Verdicts.{verdict_of}
-use Rattle.preferences.proofs.Apart.{apart_length, sum_is_one}
+use Rattle.levels.proofs.Apart.{apart_length, sum_is_one}
 use Rattle.preferences.proofs.shortest.ShortestPreference.prefer_to_sum.Goals as goal
 
 -- a sum has its digits other than 0 where the first word is not the opposite of the second

@@ -1,17 +1,18 @@
 -- Where the digits of a sum are 0: where the first word is the opposite of the second.
-use Rattle.std.proofs.Common.{◌≡◌, ℕ, zero, suc, ◌+◌, ◌-◌, ◌*◌, ◌%◌, ◌/◌, ◌^◌, ◌<◌, ◌≤◌, Bool, true, false, cond, eqb, List, [], ◌∷◌, ◌++◌, map, length, drop, sym, refl, ap, ap₂, ◌∙◌, subst, inl, inr, arith}
+use Rattle.std.proofs.Common.{◌≡◌, ℕ, zero, suc, ◌+◌, ◌-◌, ◌*◌, ◌%◌, ◌/◌, ◌^◌, ◌<◌, ◌≤◌, Bool, true, false, cond, eqb, List, [], ◌∷◌, ◌++◌, map, length, get_or, sym, refl, ap, ap₂, ◌∙◌, subst, inl, inr, arith}
 use lib.Bits.{bit_xor, xor_shr, xor_mod, xor_self, xor_lt, xor_assoc, xor_zero_l, xor_zero_r}
 use Rattle.std.proofs.Math.Nat.{zero-mod, zero-div, div-eq_of_lt}
-use Rattle.std.proofs.lemmas.Bool.{cases_eq, eq-eqb, ne_eqb}
+use Rattle.std.proofs.lemmas.Bool.{cases_eq, eq-eqb, ne_eqb, OnTrue_at}
 use Rattle.std.specs.List.{AllByRecursion}
 use Rattle.levels.specs.Arithmetic.{Arithmetic, Lawful}
-use Rattle.levels.specs.Words.{digits, zip_with, nonzero, word_sum, word_length}
-use Rattle.levels.specs.Space.{Word}
+use Rattle.levels.specs.Words.{digits, zip_with, nonzero, code_sum, word_sum, word_length}
+use Rattle.levels.specs.Space.{AllWords, Word}
+use Rattle.bounded.specs.Items.{items_of}
+use Rattle.levels.specs.declared.opposites.Leaves.{Leaves}
+use Rattle.levels.specs.Leaves.{AllOpposite, AreOpposite, leaf_words}
 use Rattle.levels.proofs.Digits.{word_legal}
 use Rattle.levels.proofs.Space.{sum_digits, vector_space}
-use Rattle.levels.proofs.Lengths.{length_digits, more_digits, nonzero_zeros}
-use Rattle.preferences.specs.Built.{cost}
-use Rattle.preferences.proofs.Tables.{cost_split, cost_none}
+use Rattle.levels.proofs.Lengths.{length_digits, more_digits, nonzero_zeros, sum_code}
 
 -- two numbers whose exclusive or is 0 are equal
 apart_none : (a b : ℕ) → bit_xor a b ≡ 0 → a ≡ b
@@ -21,24 +22,14 @@ apart_none a b e = sym (xor_zero_r a) ∙ ap (bit_xor a) (sym (xor_self b)) ∙ 
 abbrev pub empty : List ℕ → List Bool
 empty ds = map (λ d. eqb d 0) ds
 
--- how many are not, and what these cost
+-- how many are not
 abbrev filled : List Bool → ℕ
 filled [] = 0
 filled (t ∷ ts) = cond t 0 1 + filled ts
 
-abbrev filled_cost : List ℕ → List Bool → ℕ
-filled_cost costs [] = 0
-filled_cost [] (t ∷ ts) = 0
-filled_cost (c ∷ costs) (t ∷ ts) = cond t 0 c + filled_cost costs ts
-
 nonzero_filled : (ds : List ℕ) → nonzero ds ≡ filled (empty ds)
 nonzero_filled [] = refl
 nonzero_filled (d ∷ ds) = ap (λ m. cond (eqb d 0) 0 1 + m) (nonzero_filled ds)
-
-cost_filled : (costs ds : List ℕ) → cost costs ds ≡ filled_cost costs (empty ds)
-cost_filled costs [] = refl
-cost_filled [] (d ∷ ds) = refl
-cost_filled (c ∷ costs) (d ∷ ds) = ap (λ m. cond (eqb d 0) 0 c + m) (cost_filled costs ds)
 
 -- code 0 has no digit other than 0
 none_filled : (A : Arithmetic) (m : ℕ) → nonzero (digits A m 0) ≡ 0
@@ -48,15 +39,6 @@ none_filled A (suc m) =
     let rest : 0 / 2 ^ A.bits ≡ 0 = zero-div (2 ^ A.bits) in
     let more = none_filled A m in
     rw (low, rest) (omega (arith, more))
-
--- a code that takes n digits costs what these do
-cost_under : (A : Arithmetic) (costs : List ℕ) (n x : ℕ) → n ≤ 32 → x < 2 ^ (A.bits * n) → cost costs (digits A 32 x) ≡ cost costs (digits A n x)
-cost_under A costs n x high below =
-    let e : n + (32 - n) ≡ 32 = omega arith in
-    let none : x / 2 ^ (A.bits * n) ≡ 0 = div-eq_of_lt below in
-    let rest = ap (λ v. cost (drop n costs) (digits A (32 - n) v)) none ∙ cost_none A (drop n costs) (32 - n) in
-    let all = ap (λ k. cost costs (digits A k x)) e in
-    omega (arith, cost_split A costs n (32 - n) x, rest, all)
 
 module _ (A : Arithmetic) (L : Lawful A) where
   -- levels with a sum of 0 are opposites, and a level has one opposite
@@ -95,14 +77,14 @@ module _ (A : Arithmetic) (L : Lawful A) where
 
   module _ (n a b o : ℕ) (wa : Word A n a) (wb : Word A n b) (wo : Word A n o) (none : word_sum A n b o ≡ 0) where
     -- the digits of the sum that are 0
-    sum_empty : empty (digits A n (bit_xor a o)) ≡ empty (digits A n (word_sum A n a b))
+    pub sum_empty : empty (digits A n (bit_xor a o)) ≡ empty (digits A n (word_sum A n a b))
     sum_empty =
         let zeros : nonzero (zip_with A.plus (digits A n b) (digits A n o)) ≡ 0 =
         ap nonzero (sym (sum_digits A L n b o wb wo)) ∙ ap (λ x. nonzero (digits A n x)) none ∙ none_filled A n in
         digits_empty n a b o (word_legal A n a wa).levels (word_legal A n b wb).levels (word_legal A n o wo).levels zeros
         ∙ ap empty (sym (sum_digits A L n a b wa wb))
 
-    below : bit_xor a o < 2 ^ (A.bits * n)
+    pub below : bit_xor a o < 2 ^ (A.bits * n)
     below = xor_lt (A.bits * n) a o (word_legal A n a wa).below (word_legal A n o wo).below
 
     -- the sum is a word
@@ -119,11 +101,12 @@ module _ (A : Arithmetic) (L : Lawful A) where
         ap (λ k. nonzero (digits A k x)) e ∙ ap nonzero (more_digits A n (64 - n) x below) ∙ nonzero_zeros (digits A n x) (64 - n)
         ∙ nonzero_filled (digits A n x) ∙ ap filled sum_empty ∙ sym (nonzero_filled (digits A n (word_sum A n a b))) ∙ sym (length_digits A n (word_sum A n a b) sum_is_one)
 
-    -- and the costs
-    pub apart_cost : (costs : List ℕ) → cost costs (digits A 32 (bit_xor a o)) ≡ cost costs (digits A 32 (word_sum A n a b))
-    apart_cost costs =
-        let high = (word_legal A n a wa).high in
-        let w = word_sum A n a b in
-        cost_under A costs n (bit_xor a o) high below
-        ∙ cost_filled costs (digits A n (bit_xor a o)) ∙ ap (filled_cost costs) sum_empty ∙ sym (cost_filled costs (digits A n w))
-        ∙ sym (cost_under A costs n w high (word_legal A n w sum_is_one).below)
+-- the length of the sum of a start and a leaf, by the opposite of the leaf
+pub leaf_apart : (A : Arithmetic) (L : Lawful A) (n start : ℕ) → Word A n start → (leaves : Leaves) → AllOpposite A n leaves → AllWords A n (leaf_words leaves) → (k : ℕ) → k < length (leaf_words leaves) →
+    word_length A (bit_xor start (get_or (items_of leaves.opposites) k 0)) ≡ word_length A (code_sum A start (get_or (leaf_words leaves) k 0))
+leaf_apart A L n start ws leaves opposites words k l =
+    let w = get_or (leaf_words leaves) k 0 in
+    let o = get_or (items_of leaves.opposites) k 0 in
+    let hw = words k l in
+    let p = OnTrue_at {P = AreOpposite A n w o} hw (opposites.1 k l).0 in
+    apart_length A L n start w o ws hw p.0 p.1 ∙ ap (word_length A) (sum_code A L n start w ws hw)
