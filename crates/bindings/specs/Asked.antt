@@ -51,12 +51,13 @@ told_both (Ok best) words scores =
     if both_fit (length best.0) words scores then Ok (length best.0) else Err (Plan Memory)
 told_both (Err e) words scores = Err e
 
--- either memory afterwards
+-- the memory of words afterwards
 abbrev pub left_words : Result (List ℕ × List ℕ) Refused → List ℕ → List ℕ → List ℕ
 left_words (Ok best) words scores =
     holding_if (both_fit (length best.0) words scores) best.0 words
 left_words (Err e) words scores = words
 
+-- the memory of scores afterwards
 abbrev pub left_scores : Result (List ℕ × List ℕ) Refused → List ℕ → List ℕ → List ℕ
 left_scores (Ok best) words scores =
     holding_if (both_fit (length best.0) words scores) best.1 scores

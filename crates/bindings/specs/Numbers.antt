@@ -59,11 +59,12 @@ scored_rule_by x =
     else if x == 1 then Ok ScoredRule.Cheapest
     else Err Unknown
 
--- the relation and the scores of a scored rule
+-- the relation of a scored rule
 abbrev pub scored_relation : Arithmetic → List ℕ → ScoredRule → Relation
 scored_relation A costs ScoredRule.Shortest = shortest A
 scored_relation A costs ScoredRule.Cheapest = cheapest A costs
 
+-- the scores of a scored rule
 abbrev pub scored_points : Arithmetic → List ℕ → ScoredRule → ℕ → ℕ → ℕ
 scored_points A costs ScoredRule.Shortest = length_score A
 scored_points A costs ScoredRule.Cheapest = cost_score A costs

@@ -77,19 +77,22 @@ verdict_by A preference costs n base a b =
 abbrev pub pattern_in : Arithmetic → List ℕ → Result (List ℕ) Refused
 pattern_in A file = seen (read_file A file) (λ p. pattern A p.factors (defined A p))
 
--- the length and the count of a resolution; 0 where there is none
+-- the length of a resolution; 0 where there is none
 abbrev pub length_part : Option (ℕ × ℕ) → ℕ
 length_part None = 0
 length_part (Some r) = r.0
 
+-- the count of a resolution; 0 where there is none
 abbrev pub count_part : Option (ℕ × ℕ) → ℕ
 count_part None = 0
 count_part (Some r) = r.1
 
+-- the resolution of the defining words
 abbrev pub resolution_in : Arithmetic → List ℕ → Result ℕ Refused
 resolution_in A file =
     seen (read_file A file) (λ p. length_part (resolution A p.factors (defined A p)))
 
+-- how many defining words have that length
 abbrev pub resolution_count_in : Arithmetic → List ℕ → Result ℕ Refused
 resolution_count_in A file =
     seen (read_file A file) (λ p. count_part (resolution A p.factors (defined A p)))
