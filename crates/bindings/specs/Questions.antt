@@ -42,7 +42,7 @@ abbrev pub count_in : Arithmetic → List ℕ → ℕ → Result ℕ Refused
 count_in A file side =
     and_then (side_by side) (λ s. seen (read_file A file) (λ p. length (side_of s p)))
 
--- the word at a place of a list
+-- a word of a list, by its place
 abbrev pub word_in : Arithmetic → List ℕ → ℕ → ℕ → Result ℕ Refused
 word_in A file side place =
     and_then (side_by side) (λ s. asked (read_file A file) (word_at s place))

@@ -26,7 +26,7 @@ fn count<L: Levels>(file: &[u8], side: u8) -> Result<usize, Refused>
     Ok(settle::<L>(file)?.list(side).len())
 }
 
-// The word at a place of a list of a file's plan.
+// A word of a list of a file's plan, by its place.
 fn word<L: Levels>(file: &[u8], side: u8, place: usize) -> Result<u64, Refused>
     ensures { result ≡ word_in L.model file.now side place }
 {

@@ -32,7 +32,7 @@ fn block_number(file: &[u8], run: u64, words: &[u64]) -> Result<u64, Refused>
     Ok(u64::from(number))
 }
 
-/// Writes one byte for each pair of factors into memory; the value is how many pairs are clear.
+/// Writes a byte for every pair of factors into memory; the value is how many pairs are clear.
 #[unsafe(no_mangle)]
 pub extern "C" fn zorilla_clear(file: &[u8], memory: &mut [u8]) -> Outcome
     ensures answer { result ≡ outcome_of (clear_count_in file.now memory.old) }

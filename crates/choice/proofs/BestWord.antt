@@ -35,7 +35,7 @@ cases_option (Some r) = inr (r, refl)
 never_both : (r : ℕ) → None ≡ Some r → ⊥
 never_both r e = let z : ◌≡◌ {A = ℕ} 0 1 = cc in omega arith
 
--- of two numbers of the list, one is at least as good as the other
+-- any two numbers of the list compare
 abbrev pub TotalOn : (ℕ → ℕ → Bool) → List ℕ → Type 0
 TotalOn at_least xs = (a b : ℕ) → holds xs a ≡ true → holds xs b ≡ true → (at_least a b ≡ true) ⊎ (at_least b a ≡ true)
 

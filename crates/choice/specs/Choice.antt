@@ -24,7 +24,7 @@ steps A at_least n wanted known (suc k) =
 abbrev pub generators : Arithmetic → Relation → ℕ → List ℕ → List ℕ → List ℕ
 generators A good n base further = steps A (judged A good n base) n (generated A n (base ++ further)) base (length further)
 
--- A rival: as many wanted words that, with the base list, generate all wanted words, listed best first (no word is better than one before it).
+-- A rival of our words: wanted words, no fewer and no more, from which and the base list all others follow, in the order of the preference.
 pub record Rival (A : Arithmetic) (good : Relation) (n : ℕ) (base further ours theirs : List ℕ) : Type 0 where
   pub as_many : length theirs ≡ length ours
   pub wanted : (i : ℕ) → i < length theirs → Generates A n (base ++ further) (slice_index theirs i)

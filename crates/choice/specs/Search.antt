@@ -42,7 +42,7 @@ Led A n rows lead = Below A.s (LedBy A n rows lead)
 abbrev pub LedAt : Arithmetic → ℕ → List ℕ → ℕ → ℕ → ℕ → Type 0
 LedAt A n rows k i w = (k ≤ i) × Led A n (take i rows) (slice_index rows i) w
 
--- a may stand before b: it is at least as good, and the smaller code among equals
+-- a may stand before b: it is better, or as good with no larger code
 abbrev pub NoLater : (ℕ → ℕ → Bool) → ℕ → ℕ → Type 0
 NoLater at_least a b = (at_least a b ≡ true) × (at_least b a ≡ true → a ≤ b)
 

@@ -104,7 +104,7 @@ module _ (A : Arithmetic) (L : Lawful A) where
       legal_word A n (code A ds) (record
       { low = low; high = high; below = rw (← e) (code_below A ds (levels_fit ds f)); levels = rw (digits_of_code n ds e f) f })
 
-  -- each list of n digits below s belongs to exactly one legal code
+  -- n levels are the digits of one legal code, and of no other
   pub one_code : (n : ℕ) → 1 ≤ n → n ≤ 32 → (ds : List ℕ) → length ds ≡ n → all_levels A ds ≡ true →
       Word A n (code A ds) × (digits A n (code A ds) ≡ ds) × ((w : ℕ) → Word A n w → digits A n w ≡ ds → w ≡ code A ds)
   one_code n low high ds e t =

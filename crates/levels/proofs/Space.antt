@@ -163,7 +163,7 @@ module _ (A : Arithmetic) (L : Lawful A) where
       (code_word A L n l.low l.high (zip_with A.plus (digits A n a) (digits A n b)) (zip_count n a b)
       (zip_levels (digits A n a) (digits A n b) (word_levels n a ha) (word_levels n b hb)))
 
-  -- the product of a level and a word is the code of the products of its digits
+  -- a multiple is the code of the products of its digits
   pub multiple_is : (n c w : ℕ) → c < A.s → Word A n w → word_multiple A n c w ≡ code A (map (A.times c) (digits A n w))
   multiple_is n c w l h =
       cond-true (ltb c A.s && legal A n w) (code A (map (A.times c) (digits A n w))) 0 (and_from (ltb c A.s) (legal A n w) (lt-ltb c A.s l) h)

@@ -9,7 +9,7 @@ pub record Arithmetic : Type 0 where
   pub plus : ℕ → ℕ → ℕ
   pub times : ℕ → ℕ → ℕ
 
--- The digits 0 to s − 1 form a field, with 0 and 1 as its two neutral elements.
+-- The levels 0 to s − 1 are a field: 0 is neutral in sums, 1 in products.
 pub record Field (s : ℕ) (plus times : ℕ → ℕ → ℕ) : Type 0 where
   pub two_levels : 2 ≤ s
   pub plus_level : (a b : ℕ) → a < s → b < s → plus a b < s
@@ -25,7 +25,7 @@ pub record Field (s : ℕ) (plus times : ℕ → ℕ → ℕ) : Type 0 where
   pub distribute : (a b c : ℕ) → a < s → b < s → c < s → times a (plus b c) ≡ plus (times a b) (times a c)
 
 -- The laws of an arithmetic: its digits form a field; a digit takes 1 bit with two levels, else 2;
--- s to the power of the limit never exceeds 65,536. Bits that are no level have a sum too, within as many bits.
+-- words within the limit generate 65,536 words at most. Bits that are no level have a sum too, within as many bits.
 pub record Lawful (A : Arithmetic) : Type 0 where
   pub field : Field A.s A.plus A.times
   pub width : A.bits ≡ cond (A.s == 2) 1 2

@@ -5,8 +5,8 @@ use Rattle.levels.specs.Words.{digits, code, all_levels, legal, nonzero, word_le
 use Rattle.levels.specs.Space.{Word, AllWords, VectorSpace}
 use Rattle.levels.specs.Generated.{Generates, Independent, SameWords, combinations}
 
--- Each list of n digits below s belongs to exactly one legal code, and the digit of factor i, from 0, is the number in
--- its bits. For n outside 1 to 32 no code is legal.
+-- Legal codes and lists of n levels correspond one to one: the level of factor i, from 0, is the number in its bits. With no factor,
+-- or more than 32, there is no legal code.
 pub record CodesAndDigits (A : Arithmetic) : Type 0 where
   pub code_of : (n : ℕ) → 1 ≤ n → n ≤ 32 → (ds : List ℕ) → length ds ≡ n → all_levels A ds ≡ true → Word A n (code A ds) × (digits A n (code A ds) ≡ ds)
   pub only_code : (n : ℕ) → 1 ≤ n → n ≤ 32 → (ds : List ℕ) → length ds ≡ n → all_levels A ds ≡ true → (w : ℕ) → Word A n w → digits A n w ≡ ds → w ≡ code A ds

@@ -31,7 +31,7 @@ zip_with f (a ∷ xs) (b ∷ ys) = f a b ∷ zip_with f xs ys
 abbrev pub word_sum : Arithmetic → ℕ → ℕ → ℕ → ℕ
 word_sum A n a b = cond (legal A n a && legal A n b) (code A (zip_with A.plus (digits A n a) (digits A n b))) 0
 
--- the product of a level and a word of n factors, digit by digit; code 0 where the word is illegal or the level is not below s
+-- a word of n factors times a level, digit by digit; code 0 where the word is illegal or the level is not below s
 abbrev pub word_multiple : Arithmetic → ℕ → ℕ → ℕ → ℕ
 word_multiple A n c w = cond (nat_lt c A.s && legal A n w) (code A (map (A.times c) (digits A n w))) 0
 

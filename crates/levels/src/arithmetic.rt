@@ -3,7 +3,7 @@ ghost use Rattle.std.specs.Prelude.{◌≡◌, ◌*◌, ◌^◌, ◌&&◌, ℕ, 
 ghost use Rattle.levels.specs.Arithmetic.{Arithmetic, Lawful};
 ghost use Rattle.levels.specs.Words.{legal, code_sum, word_length, word_multiple, word_sum};
 
-/// No arithmetic allows a plan more words: 2 to the power of 16 is 65,536, which s to the power of the limit never exceeds.
+/// No arithmetic allows a plan more words: with two levels, 16 words generate 65,536, the most that a plan may.
 pub const MOST: usize = 16;
 
 /// Levels of a factor: how many there are, how words of them are packed into codes, and how words are added.
@@ -37,7 +37,7 @@ pub trait Levels {
     fn add(a: u64, b: u64) -> u64
         ensures { result ≡ code_sum model a b };
 
-    /// The product of a level and a word of n factors; code 0 where the level is not below s or the word is illegal.
+    /// A word of n factors times a level; code 0 where the level is not below s or the word is illegal.
     fn product(n: u8, level: u8, word: u64) -> u64
         ensures { result ≡ word_multiple model n level word };
 

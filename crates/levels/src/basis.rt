@@ -43,7 +43,7 @@ impl Basis {
     }
 
     /// What is left of a word by multiples of the rows: code 0 exactly if they generate it.
-    /// Echelon rows and a legal word are premises: a basis that kept them would be of one number of factors, and asks more of callers.
+    /// The rows are in echelon form, and the word is legal.
     pub fn reduce<L: Levels>(&self, n: u8, word: u64) -> u64
         ensures { Echelon L.Levels.model n (basis_rows self.now) → Word L.Levels.model n word → LeastAlias L.Levels.model n (basis_rows self.now) word result }
     {

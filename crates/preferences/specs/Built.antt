@@ -42,7 +42,7 @@ abbrev pub length_counts : Arithmetic → List ℕ → ℕ → ℕ → List ℕ
 length_counts A ws i zero = []
 length_counts A ws i (suc k) = of_length A i ws ∷ length_counts A ws (suc i) k
 
--- least aberration: at the smallest length, from 0 up, where the alias sets differ in their number of words, fewer is better
+-- least aberration: of two alias sets, the one that has fewer words of the first length in which their numbers differ
 abbrev pub least_aberration : Arithmetic → Relation
 least_aberration A n base a b = no_more (length_counts A (alias_set A n base a) 0 (suc n)) (length_counts A (alias_set A n base b) 0 (suc n))
 

@@ -6,7 +6,7 @@ use Rattle.levels.specs.Words.{legal, word_sum}
 use Rattle.levels.specs.Space.{Word}
 use Rattle.levels.specs.Generated.{Generates, SameWords}
 
--- n, the base list, a and b: a is at least as good as b
+-- whether, for n factors and over a base list, one word is as good as another or better
 abbrev pub Relation : Type 0
 Relation = ℕ → List ℕ → ℕ → ℕ → Bool
 
@@ -18,8 +18,8 @@ all_legal A n = list_all (legal A n)
 abbrev pub fair : Arithmetic → ℕ → List ℕ → Bool
 fair A n base = nat_le (length base) A.limit && all_legal A n base
 
--- The laws of a preference, on legal words and base lists that it judges by: of two words, or one taken twice, one is at
--- least as good as the other; the relation is transitive; base lists that generate the same words give the same relation.
+-- The laws of a preference, on legal words and base lists that it judges by: any two words compare, also a word with itself;
+-- the relation is transitive; and what counts of a base list is the set of words that it generates.
 pub record PreferenceLaws (A : Arithmetic) (good : Relation) : Type 0 where
   pub total : (n : ℕ) (base : List ℕ) → fair A n base ≡ true → (a b : ℕ) → Word A n a → Word A n b → (good n base a b ≡ true) ⊎ (good n base b a ≡ true)
   pub transitive : (n : ℕ) (base : List ℕ) → fair A n base ≡ true → (a b c : ℕ) → Word A n a → Word A n b → Word A n c → good n base a b ≡ true → good n base b c ≡ true → good n base a c ≡ true

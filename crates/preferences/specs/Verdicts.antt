@@ -15,7 +15,7 @@ of_order Less = First
 of_order Greater = Second
 of_order Alike = Equal
 
--- the verdict on two words, from whether each is at least as good as the other
+-- the verdict on two words: whether the first is as good as the second, and the second as the first
 abbrev pub verdict_of : Bool → Bool → Verdict
 verdict_of true true = Equal
 verdict_of true false = First
@@ -28,12 +28,12 @@ turned First = Second
 turned Second = First
 turned Equal = Equal
 
--- the answer for any two codes: equal where a code or a base word is illegal, or the base list is longer than the limit
+-- the answer for any two codes: they are equal where one is illegal, or nothing can be judged by the base list
 abbrev pub verdict : Arithmetic → Relation → ℕ → List ℕ → ℕ → ℕ → Verdict
 verdict A good n base a b = cond (fair A n base && (legal A n a && legal A n b)) (verdict_of (good n base a b) (good n base b a)) Equal
 
--- A score of words is from 0 to 2,097,120, an illegal code scores 0, and a legal word is at least as good as another
--- exactly if its score is not larger.
+-- A score of words: the smaller it is, the better the word; none is above 2,097,120, which is 32 times 65,535, and what is illegal
+-- has 0.
 pub record Scores (A : Arithmetic) (good : Relation) (score : ℕ → ℕ → ℕ) : Type 0 where
   pub bounded : (n w : ℕ) → score n w ≤ 2097120
   pub illegal : (n w : ℕ) → legal A n w ≡ false → score n w ≡ 0

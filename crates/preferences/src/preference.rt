@@ -50,8 +50,8 @@ pub trait Preference<L: Levels> {
     // "at least as good", for n factors and a base list of words
     ghost good: { Self → Relation };
 
-    /// Which of two codes is better for n factors and a base list of words. Equal where a code or a word of the
-    /// base list is illegal, or the base list is longer than the limit.
+    /// Which of two codes is better for n factors and a base list of words. Equal where a code is illegal, or nothing can be judged by
+    /// the base list: it has an illegal word, or more words than the limit.
     fn compare(&self, n: u8, base: &[u64], a: u64, b: u64) -> Verdict
         ensures { result ≡ verdict L.model (good self.now) n base.now a b }
     {
