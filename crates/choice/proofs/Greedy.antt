@@ -1,7 +1,7 @@
 -- The choice of generators, one best fresh word after the other, and what is promised of it.
 use Rattle.std.proofs.Common.{◌≡◌, ℕ, zero, suc, ◌+◌, ◌-◌, ◌<◌, ◌≤◌, Bool, true, false, cond, not, ◌&&◌, ◌⊎◌, List, [], ◌∷◌, ◌++◌, length, get_or, take, drop, Some, None, sym, refl, ap, ◌∙◌, subst, inl, inr, add_comm, suc-add, zero-add, arith}
 use Rattle.std.proofs.lemmas.Bool.{cases_Bool, cases_lt, cases_eq, both_ways, not-false, not_from_true, and_right, cond-true}
-use Rattle.std.proofs.lemmas.List.{append-nil, append_assoc, get_or_append_left, get_or-append_right, get_or_past, get_or-drop, length-append, length-take, length-drop, nil_from_length, take-append-le, take_at, get_or_push}
+use Rattle.std.proofs.lemmas.List.{append-nil, append_assoc, get_or_append_left, get_or-append_right, get_or_past, get_or-drop, length-append, length-take, length-drop, nil_from_length}
 use Rattle.levels.specs.Arithmetic.{Arithmetic, Lawful}
 use Rattle.levels.specs.Space.{Word, VectorSpace}
 use Rattle.levels.specs.Generated.{Generates, Independent, SameWords, generated, holds}
@@ -157,15 +157,6 @@ module _ (A : Arithmetic) (n : ℕ) (at_least : ℕ → ℕ → Bool) (all : Lis
       rw (suc-add, ← append_assoc known (w ∷ []) ours)
       (steps_next known w (length ours + k) (rw append-nil at (h 0 (omega arith)))
       ∙ ap (◌∷◌ w) (stepped_steps ours (known ++ w ∷ []) (λ i l. rw append_assoc (h (suc i) (omega arith))) k))
-
-  -- one more word behind
-  pub stepped_push : (known ours : List ℕ) (w : ℕ) → Stepped known ours → best at_least (fresh A n all (known ++ ours)) ≡ Some w → Stepped known (ours ++ w ∷ [])
-  stepped_push known ours w h e i l = elim (cases_lt i (length ours)) [
-    | inl lt ↦ rw (take-append-le i ours (w ∷ []) (omega arith), get_or_append_left ours (w ∷ []) 0 i lt) (h i lt)
-    | inr ge ↦
-        let same : length ours ≡ i = omega (arith, length-append ours (w ∷ [])) in
-        rw (take_at ours (w ∷ []) i same, get_or_push ours w 0 i same) e
-  ]
 
 -- what a preference judges is an order of the words
 pub judged_order : (A : Arithmetic) (good : Relation) → PreferenceLaws A good → (n : ℕ) (base : List ℕ) → Order A n (judged A good n base)
@@ -403,7 +394,3 @@ module _ (A : Arithmetic) (L : Lawful A) (good : Relation) (n : ℕ) (base furth
   -- there are at most as many as further words
   pub generators_length : length (generators A good n base further) ≤ length further
   generators_length = steps_length A n (judged A good n base) (base ++ further) (length further) base
-
-  -- words that are each the best fresh word, and leave none, are the generators
-  pub generators_done : (ours : List ℕ) → Stepped A n (judged A good n base) (base ++ further) base ours → best (judged A good n base) (fresh A n (base ++ further) (base ++ ours)) ≡ None → generators A good n base further ≡ ours
-  generators_done = stepped_done A L n (judged A good n base) base further

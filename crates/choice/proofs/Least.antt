@@ -3,7 +3,7 @@ use Rattle.std.proofs.Common.{◌≡◌, ℕ, ◌+◌, ◌<◌, ◌≤◌, Bool,
 use Rattle.std.proofs.lemmas.List.{get_or-take, get_or-drop, get_or_append_left, take_rest, length-append, length-take, length-drop}
 use Rattle.levels.specs.Arithmetic.{Arithmetic, Lawful}
 use Rattle.levels.specs.Words.{word_sum, word_multiple, code_sum}
-use Rattle.levels.specs.Space.{Word, VectorSpace}
+use Rattle.levels.specs.Space.{Word}
 use Rattle.levels.specs.Generated.{Generates, combinations}
 use Rattle.levels.specs.Basis.{Echelon, Smallest, LeastAlias}
 use Rattle.levels.proofs.Reduced.{space_at, smallest_generated, clear_alias, echelon_none}

@@ -6,4 +6,3 @@ pub mod Sieve
 pub mod Rows
 pub mod Offers
 pub mod Samples
-pub mod BestOf

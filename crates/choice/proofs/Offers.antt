@@ -13,7 +13,7 @@ use Rattle.levels.proofs.Any.{in_range_or_none, none_trans}
 use Rattle.levels.proofs.Space.{vector_space}
 use Rattle.levels.proofs.Reduced.{space_at, alias_word, differ_back}
 use Rattle.levels.proofs.Linear.{gen_nil, gen_flip, add_zero_word}
-use Rattle.levels.proofs.Generation.{space, generates_word, generates_zero, generates_sum}
+use Rattle.levels.proofs.Generation.{space, generates_word, generates_sum}
 use Rattle.levels.specs.Space.{VectorSpace}
 use Rattle.std.specs.Bool.{OnTrue}
 use Rattle.std.proofs.Common.{cond}
@@ -24,7 +24,7 @@ use Rattle.levels.specs.Basis.{LeastAlias}
 use Rattle.levels.proofs.Any.{any_left, any_right}
 use Rattle.choice.specs.Search.{NoLater, Covered}
 use Rattle.choice.proofs.Sieve.{no_later_trans}
-use Rattle.choice.proofs.Sums.{leaf_sum, coset_from, coset_to, coset_more}
+use Rattle.choice.proofs.Sums.{coset_from, coset_to, coset_more}
 use Rattle.choice.specs.Choice.{generators, BestGenerators, DependsOnlyOnWords}
 use Rattle.choice.specs.Search.{Below, Coset, Leaf, Spread, LedBy, Led, LedAt, Kept, Offered}
 use Rattle.levels.proofs.Sets.{holds_in}
@@ -54,20 +54,6 @@ middle_same A L n V rows shared from i l e g =
 -- the sum of a word and a leaf, as its code is summed, is the sum of the words
 pub leaf_value : (A : Arithmetic) → Lawful A → (n : ℕ) (leaves : List ℕ) (start : ℕ) → Word A n start → AllWords A n leaves → (k sum : ℕ) → k < length leaves → sum ≡ code_sum A start (get_or leaves k 0) → sum ≡ word_sum A n start (get_or leaves k 0)
 leaf_value A L n leaves start word words k sum l e = e ∙ sym (sum_code A L n start (get_or leaves k 0) word (words k l))
-
--- and a word
-pub leaf_legal : (A : Arithmetic) → Lawful A → (n : ℕ) (leaves : List ℕ) (start : ℕ) → Word A n start → AllWords A n leaves → (k sum : ℕ) → k < length leaves → sum ≡ code_sum A start (get_or leaves k 0) → Word A n sum
-leaf_legal A L n leaves start word words k sum l e = subst (Word A n) (sym (leaf_value A L n leaves start word words k sum l e)) (leaf_sum A L n leaves words start word k)
-
--- by no rows, a word is its own least alias
-pub least_self : (A : Arithmetic) → Lawful A → (n w : ℕ) → Word A n w → LeastAlias A n [] w w
-least_self A L n w hw =
-    let V = space_at A L n w hw in
-    let same : word_sum A n w 0 ≡ w = add_zero_word (space A L n V) w hw in
-    record {
-      alias = (0, generates_zero A L n V [], sym same);
-      least = λ g G. let z = gen_nil (space A L n V) g G in rw z (omega (arith, same));
-    }
 
 -- the shared rows find words equal that differ by what they generate
 pub shared_law : (A : Arithmetic) → Lawful A → (good : Relation) → PreferenceLaws A good → (n : ℕ) (base known : List ℕ) → generated A n known ≡ generated A n base → (alike : Bool) → OnTrue alike (EqualAliases A good) →

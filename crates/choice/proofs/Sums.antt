@@ -12,7 +12,7 @@ use Rattle.levels.proofs.Generation.{space, generates_word, generates_zero, gene
 use Rattle.levels.proofs.Growth.{echelon_independent}
 use Rattle.levels.proofs.Any.{any_combination, any_generated}
 use Rattle.levels.proofs.Places.{In}
-use Rattle.levels.proofs.Space.{vector_space, zero_times}
+use Rattle.levels.proofs.Space.{vector_space}
 use Rattle.levels.proofs.Leaves.{multiple_legal, sum_legal, code_legal}
 use Rattle.levels.proofs.Reduced.{space_at}
 use Rattle.choice.specs.Search.{Below, Coset, Leaf, Spread, LedAt}
@@ -26,11 +26,6 @@ module _ (A : Arithmetic) (L : Lawful A) (n : ℕ) where
   -- the sum of the codes of a start and a multiple is the sum of the words
   pub next_start : (c v start product next : ℕ) → Word A n start → product ≡ word_multiple A n c v → next ≡ code_sum A start product → next ≡ word_sum A n start (word_multiple A n c v)
   next_start c v start product next hs p e = e ∙ ap (code_sum A start) p ∙ code_legal A L n c v start hs
-
-  -- a word and 0 times a code
-  pub start_again : (v start : ℕ) → Word A n start → word_sum A n start (word_multiple A n 0 v) ≡ start
-  start_again v start hs =
-      ap (word_sum A n start) (zero_times A L n v) ∙ add_zero_word (space A L n (space_at A L n start hs)) start hs
 
 module _ (A : Arithmetic) (L : Lawful A) (n : ℕ) (V : VectorSpace A n) where
   -- a sum of a word and multiples is the sum of the word and a generated one

@@ -55,9 +55,9 @@ impl<'a, L: Levels, P: Preference<L>> Judge<'a, L, P> {
     }
 
     // A candidate that was worked out is kept, and the first of too many goes.
-    fn remember(&self, progress: &mut Progress, candidate: Candidate)
+    fn remember(&self, progress: &mut Progress, candidate: &Candidate)
         requires beside { Beside L.model self.now progress.old }
-        requires ready { ReadyFor L.model self.now candidate }
+        requires ready { ReadyFor L.model self.now candidate.now }
         ensures words { words_of progress.new ≡ words_of progress.old }
         ensures beside { Beside L.model self.now progress.new }
     {
@@ -65,7 +65,7 @@ impl<'a, L: Levels, P: Preference<L>> Judge<'a, L, P> {
             if progress.candidates.len() == MOST {
                 progress.candidates.remove(0);
             }
-            progress.candidates.push(candidate);
+            progress.candidates.push(*candidate);
         }
     }
 
@@ -135,17 +135,17 @@ impl<'a, L: Levels, P: Preference<L>> Judge<'a, L, P> {
         ensures { let alike = Coset L.model self.now.factors (shared_rows self.now) word in
             OfferedTo L.model P.good self.now alike (words_of progress.old) progress.new }
     {
-        self.enter(progress, self.preference.ready(&self.base, word));
+        self.enter(progress, &self.preference.ready(&self.base, word));
     }
 
     // A candidate is put among the best words, unless they are full or generate it.
-    pub(crate) fn enter(&self, progress: &mut Progress, candidate: Candidate)
-        requires candidate { IsFor L.model self.now candidate }
+    pub(crate) fn enter(&self, progress: &mut Progress, candidate: &Candidate)
+        requires candidate { IsFor L.model self.now candidate.now }
         requires kept { KeptBy L.model P.good self.now progress.old }
         ensures { let before = words_of progress.old in
-            OfferedTo L.model P.good self.now (λ y. y ≡ candidate.word) before progress.new }
+            OfferedTo L.model P.good self.now (λ y. y ≡ candidate.now.word) before progress.new }
     {
-        let place = self.place(progress, &candidate);
+        let place = self.place(progress, candidate);
         if place < self.room && !self.generated(&progress.best, place, candidate.word) {
             let more = self.put(progress.best.words.words(), place, candidate.word);
             progress.best = more;

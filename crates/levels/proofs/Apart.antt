@@ -1,7 +1,7 @@
 -- Where the digits of a sum are 0: where the first word is the opposite of the second.
-use Rattle.std.proofs.Common.{◌≡◌, ℕ, zero, suc, ◌+◌, ◌-◌, ◌*◌, ◌%◌, ◌/◌, ◌^◌, ◌<◌, ◌≤◌, Bool, true, false, cond, eqb, List, [], ◌∷◌, ◌++◌, map, length, get_or, sym, refl, ap, ap₂, ◌∙◌, subst, inl, inr, arith}
+use Rattle.std.proofs.Common.{◌≡◌, ℕ, zero, suc, ◌+◌, ◌-◌, ◌*◌, ◌%◌, ◌/◌, ◌^◌, ◌<◌, Bool, cond, eqb, List, [], ◌∷◌, map, length, get_or, sym, refl, ap, ap₂, ◌∙◌, inl, inr, arith}
 use lib.Bits.{bit_xor, xor_shr, xor_mod, xor_self, xor_lt, xor_assoc, xor_zero_l, xor_zero_r}
-use Rattle.std.proofs.Math.Nat.{zero-mod, zero-div, div-eq_of_lt}
+use Rattle.std.proofs.Math.Nat.{zero-mod, zero-div}
 use Rattle.std.proofs.lemmas.Bool.{cases_eq, eq-eqb, ne_eqb, OnTrue_at}
 use Rattle.std.specs.List.{AllByRecursion}
 use Rattle.levels.specs.Arithmetic.{Arithmetic, Lawful}

@@ -1,7 +1,7 @@
 -- Alias sets and runs that are written whole, or refused where memory is shorter.
-use Rattle.std.proofs.Common.{◌≡◌, ℕ, suc, ◌+◌, ◌*◌, ◌^◌, ◌<◌, ◌≤◌, Bool, true, cond, eqb, ltb, List, [], ◌∷◌, ◌++◌, map, length, get_or, take, drop, Ok, Err, Result, sym, refl, ap, ◌∙◌, subst, arith}
+use Rattle.std.proofs.Common.{◌≡◌, ℕ, ◌*◌, ◌^◌, ◌<◌, ◌≤◌, true, ltb, List, [], ◌∷◌, ◌++◌, length, take, drop, Ok, Err, sym, refl, ap, ◌∙◌, subst, arith}
 use Rattle.std.proofs.lemmas.Bool.{cond-true, cond-false, lt-ltb, le-ltb}
-use Rattle.std.proofs.lemmas.List.{length-map, length-take, length-drop, take_all}
+use Rattle.std.proofs.lemmas.List.{length-map, take_all}
 use Rattle.levels.specs.Arithmetic.{Arithmetic, Lawful}
 use Rattle.levels.specs.Words.{legal, word_sum}
 use Rattle.levels.specs.Space.{Word, AllWords}
@@ -14,7 +14,6 @@ use Rattle.levels.proofs.Space.{vector_space}
 use Rattle.levels.proofs.Theory.{generation}
 use Rattle.aliasing.specs.Filled.{filled}
 use Rattle.aliasing.proofs.Filled.{filled_front, filled_length}
-use Rattle.contents.specs.declared.refusal.Refusal.{Refusal}
 use Rattle.contents.specs.declared.refusal.Refusal.TheVariants.{Illegal, Memory}
 use Rattle.contents.specs.Content.{Content}
 use Rattle.contents.specs.Memory.{holding, wrote}

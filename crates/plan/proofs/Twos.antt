@@ -1,6 +1,6 @@
 -- Every arithmetic of two levels that keeps its laws is that of two levels.
 use Rattle.std.specs.List.{AllByRecursion}
-use Rattle.std.proofs.Common.{◌≡◌, ℕ, zero, suc, ◌<◌, cond, ◌&&◌, eqb, ltb, List, [], ◌∷◌, length, get_or, map, sym, refl, ap, ◌∙◌, subst, inl, inr, arith}
+use Rattle.std.proofs.Common.{◌≡◌, ℕ, zero, suc, ◌<◌, cond, ◌&&◌, eqb, ltb, List, [], ◌∷◌, get_or, map, sym, refl, ap, ◌∙◌, subst, inl, inr, arith}
 use Rattle.std.proofs.lemmas.Bool.{cases_lt, cond-true, eq-eqb}
 use Rattle.levels.specs.Arithmetic.{Arithmetic, Field, Lawful, two, plus_modulo, times_modulo}
 use Rattle.levels.specs.Words.{digits, code, legal, zip_with, word_sum, word_multiple}

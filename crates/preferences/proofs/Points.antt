@@ -1,6 +1,6 @@
 -- What the scores of words are: bounded, 0 for an illegal code, and the smaller is better.
-use Rattle.std.proofs.Common.{◌≡◌, ℕ, suc, ◌+◌, ◌-◌, ◌*◌, ◌/◌, ◌%◌, ◌^◌, ◌<◌, ◌≤◌, cond, eqb, ◌⊎◌, List, [], ◌∷◌, length, get_or, drop, refl, ap, ◌∙◌, inl, inr, arith}
-use Rattle.std.proofs.lemmas.List.{at_drop_more, at_drop_all}
+use Rattle.std.proofs.Common.{◌≡◌, ℕ, suc, ◌+◌, ◌-◌, ◌*◌, ◌<◌, ◌≤◌, eqb, ◌⊎◌, List, [], ◌∷◌, length, get_or, drop, refl, ap, ◌∙◌, inl, inr, arith}
+use Rattle.std.proofs.lemmas.List.{at_drop_all}
 use Rattle.std.proofs.lemmas.Bool.{cond_both, cond-false}
 use Rattle.levels.specs.Arithmetic.{Arithmetic}
 use Rattle.levels.specs.Words.{legal, digits, word_length}
@@ -33,13 +33,6 @@ cost_scores A costs size small = record {
   ranks = λ n base a b wa wb. refl;
 }
 
--- the cost of the factors from i on is that of factor i and of those after it
-pub cost_step : (A : Arithmetic) (costs : List ℕ) (n i w : ℕ) → i < length costs → i < n →
-    cost (drop i costs) (digits A (n - i) w) ≡ cond (eqb (w % 2 ^ A.bits) 0) 0 (get_or costs i 0) + cost (drop (i + 1) costs) (digits A (n - (i + 1)) (w / 2 ^ A.bits))
-cost_step A costs n i w within below =
-    let e : n - i ≡ suc (n - (i + 1)) = omega arith in
-    ap (λ k. cost (drop i costs) (digits A k w)) e ∙ at_drop_more (λ cs. cost cs (digits A (suc (n - (i + 1))) w)) costs i 0 within
-
 -- without costs there is none
 pub no_costs : (ds : List ℕ) → cost [] ds ≡ 0
 no_costs [] = refl
@@ -49,12 +42,3 @@ no_costs (d ∷ ds) = refl
 pub cost_past : (A : Arithmetic) (costs : List ℕ) (n i w : ℕ) → (length costs ≤ i) ⊎ (n ≤ i) → cost (drop i costs) (digits A (n - i) w) ≡ 0
 cost_past A costs n i w (inl h) = at_drop_all (λ cs. cost cs (digits A (n - i) w)) costs i h ∙ no_costs (digits A (n - i) w)
 cost_past A costs n i w (inr h) = let e : n - i ≡ 0 = omega arith in ap (λ k. cost (drop i costs) (digits A k w)) e
-
--- the total with the cost of factor i, and the cost of what is left then
-pub cost_turn : (A : Arithmetic) (costs : List ℕ) (n i w next total more whole : ℕ) → i < length costs → i < n → next ≡ w / 2 ^ A.bits →
-    more ≡ total + cond (eqb (w % 2 ^ A.bits) 0) 0 (get_or costs i 0) → total + cost (drop i costs) (digits A (n - i) w) ≡ whole →
-    more + cost (drop (i + 1) costs) (digits A (n - (i + 1)) next) ≡ whole
-cost_turn A costs n i w next total more whole within below e f inv =
-    let step = cost_step A costs n i w within below in
-    let rest = ap (λ v. cost (drop (i + 1) costs) (digits A (n - (i + 1)) v)) e in
-    omega arith

@@ -119,19 +119,6 @@ sums_start costs = record {
   ];
 }
 
--- a part begins with a sum of no costs
-pub sums_part : (k : ℕ) (costs sums : List ℕ) → SumsUpto (64 * k) costs sums → SumsUpto (64 * k + 1) costs sums
-sums_part k costs sums upto = record {
-  size = upto.size;
-  stand = λ q y l below. elim (cases_lt (64 * q + y) (64 * k)) [
-    | inl before ↦ upto.stand q y l before
-    | inr here ↦
-        let none : y ≡ 0 = omega arith in
-        upto.zeros (64 * q + y) here ∙ sym (ap (λ x. cost (drop (6 * q) costs) (digits two 6 x)) none ∙ cost_none two (drop (6 * q) costs) 6)
-  ];
-  zeros = λ i l. upto.zeros i (omega arith);
-}
-
 -- the bits of a part are few
 pub few_values : (j : ℕ) → j < 6 → 2 ^ j + 2 ^ j ≤ 64
 few_values j l =

@@ -46,12 +46,13 @@ impl<L: Levels> Preference<L> for LeastAberration {
     }
 
     fn ready(&self, base: &Span<L>, word: u64) -> Candidate {
-        let tally = if base.words().is_empty() {
-            None
-        } else {
-            Some(base.tally(word))
-        };
-        Candidate { word, tally }
+        if base.words().is_empty() {
+            return Candidate::new(word);
+        }
+        Candidate {
+            word,
+            tally: Some(base.tally(word)),
+        }
     }
 
     #[inline(always)]

@@ -1,4 +1,4 @@
-use Rattle.std.proofs.Common.{arith, inl, inr, ap, ◌≡◌, ℕ, ◌∙◌, slice_index}
+use Rattle.std.proofs.Common.{arith, inl, inr, ap, ◌≡◌, ◌∙◌, slice_index}
 use Rattle.std.proofs.lemmas.Bool.{cases_lt}
 use Rattle.preferences.proofs.aberration.shortest_length.Goals as goal
 

@@ -19,9 +19,9 @@ returns-then-not-generated g c =
     let order = judged_order A good (g.met.P.Preference.lawful s.preference.now) s.factors base in
     let ours = words_of c.args.progress.now in
     let p = c.place-place.ensures in
-    let made = c.remember.ensures.words ∙ c.put-more.ensures.words ∙ ap (λ (us : List ℕ). sieve A s.factors s.room base [] (take c.place-place.result us ++ c.args.candidate.word ∷ drop c.place-place.result us)) c.words.ensures in (
-      subst (Offered A s.factors at_least s.room base (λ (y : ℕ). y ≡ c.args.candidate.word) ours) (sym made)
-          (offered_at A g.met.L.Levels.lawful s.factors at_least order s.room base ours c.place-place.result c.args.candidate.word p.within c.requires.kept.0 c.requires.candidate.0
+    let made = c.remember.ensures.words ∙ c.put-more.ensures.words ∙ ap (λ (us : List ℕ). sieve A s.factors s.room base [] (take c.place-place.result us ++ c.args.candidate.now.word ∷ drop c.place-place.result us)) c.words.ensures in (
+      subst (Offered A s.factors at_least s.room base (λ (y : ℕ). y ≡ c.args.candidate.now.word) ours) (sym made)
+          (offered_at A g.met.L.Levels.lawful s.factors at_least order s.room base ours c.place-place.result c.args.candidate.now.word p.within c.requires.kept.0 c.requires.candidate.0
           p.before p.behind),
       c.remember.ensures.beside,
     )
@@ -37,11 +37,11 @@ returns-else-place-self g c =
     let order = judged_order A good (g.met.P.Preference.lawful s.preference.now) s.factors base in
     let ours = words_of c.args.progress.now in
     let p = c.place-place.ensures in
-    let known : Generates A s.factors (base ++ take c.place-place.result ours) c.args.candidate.word ⊎ (s.room ≤ c.place-place.result) = elim c.else-place-self.branch [
+    let known : Generates A s.factors (base ++ take c.place-place.result ours) c.args.candidate.now.word ⊎ (s.room ≤ c.place-place.result) = elim c.else-place-self.branch [
       | else-place-self-via-then-place-self+else-not-generated w ↦ inl (OnTrue_at w.if-not-generated.false w.generated.ensures)
       | else-place-self-via-else-place-self w ↦ inr (omega (arith, w.if-place-self.false))
     ] in (
-      offered_stays A g.met.L.Levels.lawful s.factors at_least order s.room base ours c.args.candidate.word c.place-place.result c.requires.kept.0 p.within
+      offered_stays A g.met.L.Levels.lawful s.factors at_least order s.room base ours c.args.candidate.now.word c.place-place.result c.requires.kept.0 p.within
           p.before known,
       c.requires.kept.1,
     )

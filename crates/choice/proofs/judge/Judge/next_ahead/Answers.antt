@@ -1,7 +1,5 @@
-use Rattle.std.proofs.Common.{◌≡◌, ℕ, ◌-◌, List, Option, Some, length, get_or, sym, ap, ◌∙◌, subst, arith}
-use Rattle.std.specs.Option.{IfSome}
+use Rattle.std.proofs.Common.{ℕ, ◌-◌, List, length, get_or, ap, ◌∙◌, arith}
 use Rattle.levels.specs.Rows.{basis_rows}
-use Rattle.preferences.specs.declared.candidate.Candidate.{Candidate}
 use Rattle.choice.specs.Judged.{Beside, words_of}
 use Rattle.choice.proofs.Least.{none_ahead, first_found}
 use Rattle.levels.specs.Leaves.{leaf_words}

@@ -1,7 +1,6 @@
-use Rattle.std.proofs.Common.{◌≡◌, ℕ, sym, ◌∙◌, subst}
+use Rattle.std.proofs.Common.{ℕ, sym, ◌∙◌, subst}
 use Rattle.std.specs.Bool.{OnTrue, OnFalse}
 use Rattle.levels.specs.Space.{Word}
-use Rattle.levels.specs.Words.{word_sum}
 use Rattle.levels.proofs.Lengths.{sum_code}
 use Rattle.levels.proofs.Apart.{sum_is_one}
 use Rattle.choice.specs.Search.{NoLater}

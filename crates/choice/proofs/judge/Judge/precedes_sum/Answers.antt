@@ -1,4 +1,4 @@
-use Rattle.std.proofs.Common.{rules, ◌≡◌, ℕ, sym, ap, ◌∙◌, subst}
+use Rattle.std.proofs.Common.{rules, ◌≡◌, sym, ap, ◌∙◌}
 use Rattle.levels.specs.Words.{word_sum}
 use Rattle.levels.specs.Space.{Word}
 use Rattle.levels.proofs.Lengths.{sum_code}

@@ -22,8 +22,8 @@ returns-after-len-eq-MOST-clause-beside g c =
       )
       | else-len-eq-MOST w ↦ subst (Beside A s) (sym w.progress-is) c.requires.beside
     ] in
-    let one : All P (c.args.candidate ∷ []) = λ k d l. let z : k ≡ 0 = omega arith in rw z c.requires.ready in
+    let one : All P (c.args.candidate.now ∷ []) = λ k d l. let z : k ≡ 0 = omega arith in rw z c.requires.ready in
     let now = items_of c.if-len-eq-MOST.progress.candidates in (
       beside.0,
-      subst (All P) (sym c.push.ensures) (All-take P 16 (now ++ c.args.candidate ∷ []) (All-append P now (c.args.candidate ∷ []) beside.1 one)),
+      subst (All P) (sym c.push.ensures) (All-take P 16 (now ++ c.args.candidate.now ∷ []) (All-append P now (c.args.candidate.now ∷ []) beside.1 one)),
     )

@@ -1,5 +1,5 @@
 -- As many runs as were asked for are there, and memory has room for them.
-use Rattle.std.proofs.Common.{◌≡◌, ℕ, ◌+◌, ◌<◌, ◌≤◌, ◌++◌, ltb, length, take, drop, Ok, Err, ap, sym, ◌∙◌, arith, length-take, length-drop}
+use Rattle.std.proofs.Common.{◌≡◌, ◌+◌, ◌≤◌, ◌++◌, ltb, length, take, drop, Ok, Err, ap, sym, ◌∙◌, arith, length-take, length-drop}
 use Rattle.std.proofs.lemmas.Bool.{cond-false, le-ltb}
 use Rattle.contents.specs.declared.refusal.Refusal.TheVariants.{Last}
 use Rattle.contents.specs.Memory.{holding_ok}

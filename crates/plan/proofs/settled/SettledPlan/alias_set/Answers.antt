@@ -1,8 +1,7 @@
 -- Memory is shorter than the alias set, or the alias set is written whole.
-use Rattle.std.proofs.Common.{◌≡◌, ℕ, ◌<◌, ◌≤◌, ◌++◌, List, true, length, drop, min, Ok, Err, Result, sym, ap, ◌∙◌, arith, rules}
+use Rattle.std.proofs.Common.{◌≡◌, ◌<◌, ◌≤◌, true, length, Ok, sym, ap, ◌∙◌, arith, rules}
 use Rattle.levels.specs.Alias.{alias_set}
 use Rattle.levels.specs.Words.{legal}
-use Rattle.contents.specs.declared.refusal.Refusal.{Refusal}
 use Rattle.contents.specs.Memory.{holding_ok, wrote_ok}
 use Rattle.plan.proofs.Filling.{alias_set_legal, filled_fits, holding_fits, holding_short, wrote_fits, wrote_short}
 use Rattle.plan.proofs.settled.SettledPlan.alias_set.Goals as goal

@@ -1,6 +1,5 @@
 use Rattle.std.proofs.Common.{◌≡◌, Bool, true, false, not, ◌&&◌, ◌||◌, ◌⊎◌, inl, inr, sym, refl, ◌∙◌, rules}
 use Rattle.std.proofs.lemmas.Bool.{both_ways}
-use Rattle.levels.specs.Space.{Word}
 use Rattle.levels.specs.Words.{word_sum}
 use Rattle.preferences.specs.declared.preference.Verdict.TheVariants.{Equal}
 use Rattle.preferences.specs.Verdicts.{verdict_of}
