@@ -106,7 +106,8 @@ struct Outcome zorilla_choose_scored(uint8_t levels, const uint8_t *file, size_t
 struct Outcome zorilla_verdict(uint8_t levels, uint8_t preference, const uint16_t *costs, uint8_t n,
                                const uint64_t *base, size_t words, uint64_t a, uint64_t b);
 
-/* The wordlength pattern: how many defining words have each length from 1 to n. */
+/* The wordlength pattern: of the words that the defining words generate, without code 0, how many have each length from 1 to n; divided
+   by the levels less 1. */
 struct Outcome zorilla_pattern(uint8_t levels, const uint8_t *file, size_t bytes,
                                uint32_t *memory, size_t room);
 
