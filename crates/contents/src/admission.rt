@@ -38,7 +38,9 @@ impl PlanContent {
     pub fn admit<L: Levels>(&mut self, side: Side, word: u64) -> Result<(), Refusal>
         ensures { Acts (admitted L.Levels.model side word (content_of self.old)) (content_of self.old) (content_of self.new) result }
     {
-        self.admissible::<L>(word, self.generates::<L>(word))?;
+        // Of an illegal code nothing more is asked.
+        let known = L::legal(self.factors, word) && self.generates::<L>(word);
+        self.admissible::<L>(word, known)?;
         self.push(side, word);
         Ok(())
     }
