@@ -1,11 +1,12 @@
 // The cheaper word is better, by the costs of its factors.
-ghost use Rattle.std.specs.Prelude.{◌≡◌, ℕ, ◌<◌, slice_index};
+ghost use Rattle.std.specs.Prelude.{◌≡◌, ℕ, ◌<◌, nat_le, slice_index};
 ghost use Rattle.levels.specs.Words.{digits};
 ghost use Rattle.preferences.specs.Built.{cheapest, cost, cost_score};
 ghost use Rattle.preferences.specs.Sums.{AreSums, mask_bits, mask_order, used};
+ghost use Rattle.preferences.specs.Verdicts.{verdict_of};
 ghost use Rattle.std.proofs.Common.{rules};
 
-use crate::preference::{Preference, Scored, Verdict, smaller};
+use crate::preference::{Preference, Scored, Verdict, judged, smaller};
 use crate::sum::Sum;
 use levels::{Levels, Span};
 
@@ -63,6 +64,16 @@ impl Cheapest {
         }
         total
     }
+
+    // Of two words, the cheaper one.
+    #[inline]
+    fn cheaper<L: Levels>(&self, a: u64, b: u64) -> Verdict
+        ensures { let first = cost self.now.costs (digits L.model 32 a) in
+            let second = cost self.now.costs (digits L.model 32 b) in
+            result ≡ verdict_of (nat_le first second) (nat_le second first) }
+    {
+        smaller(u64::from(self.total::<L>(a)), u64::from(self.total::<L>(b)))
+    }
 }
 
 impl<L: Levels> Preference<L> for Cheapest {
@@ -70,9 +81,18 @@ impl<L: Levels> Preference<L> for Cheapest {
 
     ghost lawful = { Prim.search rules };
 
+    // No sums of the base list are needed.
+    fn compare(&self, n: u8, base: &[u64], a: u64, b: u64) -> Verdict {
+        if judged::<L>(n, base, a, b) {
+            self.cheaper::<L>(a, b)
+        } else {
+            Verdict::Equal
+        }
+    }
+
     #[inline]
     fn prefer(&self, _base: &Span<L>, a: u64, b: u64) -> Verdict {
-        smaller(u64::from(self.total::<L>(a)), u64::from(self.total::<L>(b)))
+        self.cheaper::<L>(a, b)
     }
 
     #[inline]

@@ -26,6 +26,14 @@ impl<L: Levels, P: Preference<L>, Q: Preference<L>> Preference<L> for FirstThenS
         self.first.equates_aliases() && self.second.equates_aliases()
     }
 
+    // Each preference knows whether it needs the sums of the base list.
+    fn compare(&self, n: u8, base: &[u64], a: u64, b: u64) -> Verdict {
+        match self.first.compare(n, base, a, b) {
+            Verdict::Equal => self.second.compare(n, base, a, b),
+            decided => decided,
+        }
+    }
+
     #[inline(always)]
     fn prefer(&self, base: &Span<L>, a: u64, b: u64) -> Verdict {
         match self.first.prefer(base, a, b) {

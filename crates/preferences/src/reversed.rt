@@ -24,6 +24,11 @@ impl<L: Levels, P: Preference<L>> Preference<L> for Reversed<P> {
         self.0.equates_aliases()
     }
 
+    // The preference knows whether it needs the sums of the base list.
+    fn compare(&self, n: u8, base: &[u64], a: u64, b: u64) -> Verdict {
+        self.0.compare(n, base, a, b).turned()
+    }
+
     #[inline]
     fn prefer(&self, base: &Span<L>, a: u64, b: u64) -> Verdict {
         self.0.prefer(base, a, b).turned()

@@ -1,9 +1,11 @@
 // The shorter word is better.
-ghost use Rattle.std.specs.Prelude.{◌≡◌};
+ghost use Rattle.std.specs.Prelude.{◌≡◌, nat_le};
+ghost use Rattle.levels.specs.Words.{word_length};
 ghost use Rattle.preferences.specs.Built.{shortest, length_score};
+ghost use Rattle.preferences.specs.Verdicts.{verdict_of};
 ghost use Rattle.std.proofs.Common.{rules};
 
-use crate::preference::{Preference, Scored, Verdict, smaller};
+use crate::preference::{Preference, Scored, Verdict, judged, smaller};
 use crate::sum::Sum;
 use levels::{Levels, Span};
 
@@ -15,9 +17,18 @@ impl<L: Levels> Preference<L> for Shortest {
 
     ghost lawful = { Prim.search rules };
 
+    // No sums of the base list are needed.
+    fn compare(&self, n: u8, base: &[u64], a: u64, b: u64) -> Verdict {
+        if judged::<L>(n, base, a, b) {
+            shorter::<L>(a, b)
+        } else {
+            Verdict::Equal
+        }
+    }
+
     #[inline]
     fn prefer(&self, _base: &Span<L>, a: u64, b: u64) -> Verdict {
-        smaller(u64::from(L::length(a)), u64::from(L::length(b)))
+        shorter::<L>(a, b)
     }
 
     #[inline]
@@ -39,4 +50,14 @@ impl<L: Levels> Scored<L> for Shortest {
             0
         }
     }
+}
+
+// Of two words, the shorter one.
+#[inline]
+fn shorter<L: Levels>(a: u64, b: u64) -> Verdict
+    ensures { let first = word_length L.model a in
+        let second = word_length L.model b in
+        result ≡ verdict_of (nat_le first second) (nat_le second first) }
+{
+    smaller(u64::from(L::length(a)), u64::from(L::length(b)))
 }

@@ -9,7 +9,5 @@ returns g c fair first second =
     let n = c.args._base.now.factors in
     let a = score_word A costs n c.args.a first in
     let b = score_word A costs n c.args.b second in
-    let e = c.total.ensures in
-    let f = c.total-2.ensures in
-    let verdict = c.smaller.ensures in
+    let verdict = c.cheaper.ensures in
     cc
