@@ -35,9 +35,9 @@ loop-row-init g c =
     record {
       smallest = λ i l c lc. omega arith;
       start = any_zero A L n (vector_space A L n) whole;
-      kept = (c.offer_all.ensures.0.kept, c.offer_all.ensures.1, c.requires);
+      kept = (c.offer_all.ensures.0.kept, c.offer_all.ensures.1, c.requires.law);
       generated = all_generated A L n whole (OneOf A n (shared_rows s) added) (one_generated A L n whole (shared_rows s) inside added words made)
-          (words_of c.start-progress.result) (words_of c.offer_all.new.progress) (λ i l. absurd (omega (arith, ap length c.start-progress.ensures.words))) c.offer_all.ensures.0.from;
+          (words_of c.args.progress.now) (words_of c.offer_all.new.progress) (λ i l. absurd (omega (arith, ap length c.requires.none))) c.offer_all.ensures.0.from;
     }
 
 -- they alone, where alias sets are judged
@@ -58,7 +58,7 @@ returns-else-self-gt0-clause-generated g c =
     let made : (i : ℕ) → i < length added → Generates A n whole (get_or added i 0) =
     subst (λ (us : List ℕ). (i : ℕ) → i < length us → Generates A n whole (get_or us i 0)) (sym is) (drop_generated A L n whole s.all.words (length known)) in
     all_generated A L n whole (OneOf A n (shared_rows s) added) (one_generated A L n whole (shared_rows s) inside added words made)
-    (words_of c.start-progress.result) (words_of c.offer_all.new.progress) (λ i l. absurd (omega (arith, ap length c.start-progress.ensures.words))) c.offer_all.ensures.0.from
+    (words_of c.args.progress.now) (words_of c.offer_all.new.progress) (λ i l. absurd (omega (arith, ap length c.requires.none))) c.offer_all.ensures.0.from
 
 -- the added rows are the smallest codes of those that are alike
 pub offer_all-requires-clause-words : goal.offer_all-requires-clause-words
@@ -141,7 +141,7 @@ loop-row-preserved g c =
     record {
       smallest = (offer_leaves-requires-clause-start g c.before).smallest;
       start = next.1;
-      kept = (c.offer_leaves.ensures.0.kept, c.offer_leaves.ensures.1, c.requires);
+      kept = (c.offer_leaves.ensures.0.kept, c.offer_leaves.ensures.1, c.requires.law);
       generated = all_generated A L n whole (Spread A n (shared_rows s) [] (leaf_words c.new-leaves.result) c.add-start.result)
           (leaf_generated A L n whole (shared_rows s) inside (leaf_words c.new-leaves.result) c.add-start.result next.0 words next.1 (last_generated A L n whole s.all.words k all_rows before is split (leaf_words c.new-leaves.result) all))
           (words_of c.loop-row.progress) (words_of c.offer_leaves.new.progress) c.loop-row.invariant.generated c.offer_leaves.ensures.0.from;
