@@ -20,7 +20,7 @@ use preferences::{Candidate, Preference, Sum};
 pub(crate) const SMALL: usize = 4;
 
 // Of so many words the candidates are kept. Room for more would be cleared in each search.
-const KEPT: usize = 4;
+const KEPT: usize = 8;
 
 // The best words so far, and the candidates of those that entered last.
 #[derive(Drop)]
@@ -31,17 +31,6 @@ pub(crate) struct Progress {
 
 impl<'a, L: Levels, P: Preference<L>> Judge<'a, L, P> {
     ghost use Rattle.choice.specs.Judged.{AllBehind, AreLeaves, Beside, FirstAhead, Found, IsFor, IsLeast, KeptBy, KnownAs, NoneAhead, OfferedTo, ReadyFor, order_of, shared_rows, words_of};
-
-    // No words so far.
-    pub(crate) fn start(&self) -> Progress
-        ensures words { words_of result ≡ [] }
-        ensures beside { Beside L.model self.now result }
-    {
-        Progress {
-            best: self.nothing(),
-            candidates: Bounded::new(Candidate::new(0)),
-        }
-    }
 
     // What was worked out of a word when it entered.
     fn known<'p>(&self, progress: &'p Progress, word: u64) -> Option<&'p Candidate>
@@ -149,8 +138,7 @@ impl<'a, L: Levels, P: Preference<L>> Judge<'a, L, P> {
     {
         let place = self.place(progress, candidate);
         if place < self.room && !self.generated(&progress.best, place, candidate.word) {
-            let more = self.put(progress.best.words.words(), place, candidate.word);
-            progress.best = more;
+            self.put(&mut progress.best, place, candidate.word);
             self.remember(progress, candidate);
         }
     }

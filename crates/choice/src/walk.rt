@@ -9,10 +9,11 @@ ghost use Rattle.choice.specs.Search.{Coset, Led, Offered, OneOf, Spread};
 use crate::chosen::Chosen;
 use crate::judge::Judge;
 use crate::progress::{Progress, SMALL, sum_at};
+use bounded::Bounded;
 use levels::Levels;
 use levels::opposites::Leaves;
 use levels::span::list_sums;
-use preferences::Preference;
+use preferences::{Candidate, Preference};
 
 impl<'a, L: Levels, P: Preference<L>> Judge<'a, L, P> {
     ghost use Rattle.choice.specs.Judged.{AllGenerated, AllLeast, AreLeaves, Beside, FoundBy, IsLeast, KeptBy, OfferedTo, shared_rows, words_of};
@@ -22,7 +23,10 @@ impl<'a, L: Levels, P: Preference<L>> Judge<'a, L, P> {
         requires { OnTrue self.now.alike (EqualAliases L.model (P.good self.now.preference.now)) }
         ensures { FoundBy L.model P.good self.now (chosen_words result) }
     {
-        let mut progress = self.start();
+        let mut progress = Progress {
+            best: self.nothing(),
+            candidates: Bounded::new(Candidate::new(0)),
+        };
         self.sample(&mut progress);
         let rows = self.whole.rows();
         let from = self.shared();
@@ -33,7 +37,7 @@ impl<'a, L: Levels, P: Preference<L>> Judge<'a, L, P> {
     }
 
     // At first, some words that lie far apart, so that most words of the walk stand behind them at once: the added rows, and
-    // sums of the first of them with all sums of the last ones. Of large alias sets there are few.
+    // sums of the first of them with all sums of the last ones. Of large alias sets there are few, and of few rows.
     fn sample(&self, progress: &mut Progress)
         requires law { OnTrue self.now.alike (EqualAliases L.model (P.good self.now.preference.now)) }
         requires none { words_of progress.old ≡ [] }
@@ -44,8 +48,9 @@ impl<'a, L: Levels, P: Preference<L>> Judge<'a, L, P> {
         let from = self.shared();
         let rows = &self.whole.rows()[self.known.len()..];
         self.offer_all(progress, rows);
-        if self.room > 0 && from <= SMALL {
-            let (before, sums) = list_sums::<L>(self.factors, &self.whole.rows()[from..]);
+        let walked = &self.whole.rows()[from..];
+        if self.room > 0 && from <= SMALL && walked.len() > SMALL {
+            let (before, sums) = list_sums::<L>(self.factors, walked);
             let leaves = Leaves::new::<L>(self.factors, sums);
             let mut start = 0;
             for row in before {

@@ -1,4 +1,3 @@
-use Rattle.std.proofs.Common.{◌≡◌, take}
 use Rattle.levels.specs.Rows.{basis_rows}
 use Rattle.choice.specs.Chosen.{chosen_words}
 use Rattle.choice.proofs.Offers.{generators_found}

@@ -25,5 +25,5 @@ returns-after-len-eq-KEPT-clause-beside g c =
     let one : All P (c.args.candidate.now ∷ []) = λ k d l. let z : k ≡ 0 = omega arith in rw z c.requires.ready in
     let now = items_of c.if-len-eq-KEPT.progress.candidates in (
       beside.0,
-      subst (All P) (sym c.push.ensures) (All-take P 4 (now ++ c.args.candidate.now ∷ []) (All-append P now (c.args.candidate.now ∷ []) beside.1 one)),
+      subst (All P) (sym c.push.ensures) (All-take P 8 (now ++ c.args.candidate.now ∷ []) (All-append P now (c.args.candidate.now ∷ []) beside.1 one)),
     )

@@ -78,13 +78,13 @@ offer_leaves-requires-clause-start g c =
     let n = s.factors in
     let shared = shared_rows s in
     let echelon = shared_echelon A n (basis_rows s.known) s.alike s.echelon in
-    let rows = c.rows-then-from-le-SMALL.result.now in
+    let rows = c.rows-2.result.now in
     let k = c.shared-from.result in
     let count = length rows - k in
     let part = take count (drop k rows) in
     let before = c.list_sums.result.0.now in
     let least : (i : ℕ) → i < length part → Least A n shared (get_or part i 0) =
-    part_least A L n (basis_rows s.whole) shared k k s.all c.shared-from.ensures.front (omega arith) part count (ap (λ (us : List ℕ). take count (drop k us)) c.rows-then-from-le-SMALL.ensures) in
+    part_least A L n (basis_rows s.whole) shared k k s.all c.shared-from.ensures.front (omega arith) part count (ap (λ (us : List ℕ). take count (drop k us)) c.rows-2.ensures) in
     let front = front_least A L n shared echelon part before c.list_sums.ensures.words least in
     let i = c.loop-row.row-index in
     let start : Least A n shared c.loop-row.start = record {
@@ -102,13 +102,13 @@ offer_leaves-requires-clause-leaves g c =
     let n = s.factors in
     let shared = shared_rows s in
     let echelon = shared_echelon A n (basis_rows s.known) s.alike s.echelon in
-    let rows = c.rows-then-from-le-SMALL.result.now in
+    let rows = c.rows-2.result.now in
     let k = c.shared-from.result in
     let count = length rows - k in
     let part = take count (drop k rows) in
     let before = c.list_sums.result.0.now in
     let least : (i : ℕ) → i < length part → Least A n shared (get_or part i 0) =
-    part_least A L n (basis_rows s.whole) shared k k s.all c.shared-from.ensures.front (omega arith) part count (ap (λ (us : List ℕ). take count (drop k us)) c.rows-then-from-le-SMALL.ensures) in
+    part_least A L n (basis_rows s.whole) shared k k s.all c.shared-from.ensures.front (omega arith) part count (ap (λ (us : List ℕ). take count (drop k us)) c.rows-2.ensures) in
     let i = c.loop-row.row-index in
     let row = front_least A L n shared echelon part before c.list_sums.ensures.words least i c.loop-row-test.true in
     record {
@@ -126,10 +126,10 @@ loop-row-preserved g c =
     let n = s.factors in
     let known = basis_rows s.known in
     let whole = basis_rows s.whole in
-    let rows = c.rows-then-from-le-SMALL.result.now in
+    let rows = c.rows-2.result.now in
     let k = c.shared-from.result in
     let all_rows = take (length rows - k) (drop k rows) in
-    let is : all_rows ≡ drop k whole = take_rest rows k ∙ ap (drop k) c.rows-then-from-le-SMALL.ensures in
+    let is : all_rows ≡ drop k whole = take_rest rows k ∙ ap (drop k) c.rows-2.ensures in
     let before = c.list_sums.result.0.now in
     let split = c.list_sums.ensures.words in
     let i = c.loop-row.row-index in
