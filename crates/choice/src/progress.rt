@@ -10,6 +10,7 @@ ghost use Rattle.levels.specs.Leaves.{leaf_words};
 ghost use Rattle.choice.specs.Search.{Coset, NoLater};
 
 use crate::best::Best;
+use crate::chosen::MOST;
 use crate::judge::Judge;
 use bounded::Bounded;
 use levels::Levels;
@@ -19,14 +20,11 @@ use preferences::{Candidate, Preference, Sum};
 // The alias sets of so few rows are small.
 pub(crate) const SMALL: usize = 4;
 
-// Of so many words the candidates are kept. Room for more would be cleared in each search.
-const KEPT: usize = 8;
-
 // The best words so far, and the candidates of those that entered last.
 #[derive(Drop)]
 pub(crate) struct Progress {
     pub(crate) best: Best,
-    pub(crate) candidates: Bounded<Candidate, KEPT>,
+    pub(crate) candidates: Bounded<Candidate, MOST>,
 }
 
 impl<'a, L: Levels, P: Preference<L>> Judge<'a, L, P> {
@@ -53,7 +51,7 @@ impl<'a, L: Levels, P: Preference<L>> Judge<'a, L, P> {
         ensures beside { Beside L.model self.now progress.new }
     {
         if candidate.tally.is_some() {
-            if progress.candidates.len() == KEPT {
+            if progress.candidates.len() == MOST {
                 progress.candidates.remove(0);
             }
             progress.candidates.push(*candidate);
