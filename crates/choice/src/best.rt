@@ -78,19 +78,20 @@ impl<'a, L: Levels, P: Preference<L>> Judge<'a, L, P> {
     }
 
     // Of kept words with one more put in at a place, those that the base list and the words before them do not generate.
-    pub(crate) fn put(&self, kept: &[u64], place: usize, word: u64) -> Best
-        requires place { place ≤ length kept.now }
-        requires kept { AllWords L.model self.now.factors kept.now }
+    pub(crate) fn put(&self, best: &mut Best, place: usize, word: u64)
+        requires place { place ≤ length (chosen_words best.old.words) }
+        requires kept { AllWords L.model self.now.factors (chosen_words best.old.words) }
         requires word { Word L.model self.now.factors word }
-        ensures words { let longer = take place kept.now ++ word ∷ drop place kept.now in
-            chosen_words result.words ≡ sieved_by L.model self.now [] longer }
-        ensures fits { FitsBy L.model self.now result }
+        ensures words { let kept = chosen_words best.old.words in
+            let longer = take place kept ++ word ∷ drop place kept in
+            chosen_words best.new.words ≡ sieved_by L.model self.now [] longer }
+        ensures fits { FitsBy L.model self.now best.new }
     {
-        let (front, back) = kept.split_at(place);
-        let mut best = self.nothing();
-        self.keep_all(&mut best, front);
-        self.keep(&mut best, word);
-        self.keep_all(&mut best, back);
-        best
+        let kept = best.words;
+        let (front, back) = kept.words().split_at(place);
+        *best = self.nothing();
+        self.keep_all(best, front);
+        self.keep(best, word);
+        self.keep_all(best, back);
     }
 }

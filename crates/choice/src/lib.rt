@@ -32,5 +32,23 @@ pub fn choose<L: Levels, P: Preference<L>>(
         BestGenerators L.model good n base.now further.now (chosen_words result) }
     ensures same { DependsOnlyOnWords L.model (P.good preference.now) n base.now further.now }
 {
+    if further.is_empty() {
+        Chosen::new()
+    } else {
+        chosen_of(preference, n, base, further)
+    }
+}
+
+// The same of further words, where there are some. A function of its own: its room in memory is cleared where it begins.
+#[inline(never)]
+fn chosen_of<L: Levels, P: Preference<L>>(
+    preference: &P,
+    n: u8,
+    base: &[u64],
+    further: &[u64],
+) -> Chosen
+    ensures { let good = P.good preference.now in
+        chosen_words result ≡ take 16 (generators L.model good n base.now further.now) }
+{
     Judge::<L, P>::new(preference, n, base, further).best()
 }

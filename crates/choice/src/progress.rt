@@ -30,17 +30,6 @@ pub(crate) struct Progress {
 impl<'a, L: Levels, P: Preference<L>> Judge<'a, L, P> {
     ghost use Rattle.choice.specs.Judged.{AllBehind, AreLeaves, Beside, FirstAhead, Found, IsFor, IsLeast, KeptBy, KnownAs, NoneAhead, OfferedTo, ReadyFor, order_of, shared_rows, words_of};
 
-    // No words so far.
-    pub(crate) fn start(&self) -> Progress
-        ensures words { words_of result ≡ [] }
-        ensures beside { Beside L.model self.now result }
-    {
-        Progress {
-            best: self.nothing(),
-            candidates: Bounded::new(Candidate::new(0)),
-        }
-    }
-
     // What was worked out of a word when it entered.
     fn known<'p>(&self, progress: &'p Progress, word: u64) -> Option<&'p Candidate>
         requires { All (ReadyFor L.model self.now) (items_of progress.now.candidates) }
@@ -147,8 +136,7 @@ impl<'a, L: Levels, P: Preference<L>> Judge<'a, L, P> {
     {
         let place = self.place(progress, candidate);
         if place < self.room && !self.generated(&progress.best, place, candidate.word) {
-            let more = self.put(progress.best.words.words(), place, candidate.word);
-            progress.best = more;
+            self.put(&mut progress.best, place, candidate.word);
             self.remember(progress, candidate);
         }
     }

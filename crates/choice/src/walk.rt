@@ -1,5 +1,5 @@
 // The walk through all words that a search asks of.
-ghost use Rattle.std.specs.Prelude.{◌++◌, []};
+ghost use Rattle.std.specs.Prelude.{◌≡◌, ◌++◌, []};
 ghost use Rattle.std.specs.Bool.{OnTrue};
 ghost use Rattle.preferences.specs.Relation.{EqualAliases};
 ghost use Rattle.choice.specs.Chosen.{chosen_words};
@@ -9,20 +9,25 @@ ghost use Rattle.choice.specs.Search.{Coset, Led, Offered, OneOf, Spread};
 use crate::chosen::Chosen;
 use crate::judge::Judge;
 use crate::progress::{Progress, SMALL, sum_at};
+use bounded::Bounded;
 use levels::Levels;
 use levels::opposites::Leaves;
 use levels::span::list_sums;
-use preferences::Preference;
+use preferences::{Candidate, Preference};
 
 impl<'a, L: Levels, P: Preference<L>> Judge<'a, L, P> {
-    ghost use Rattle.choice.specs.Judged.{AllGenerated, AllLeast, AreLeaves, FoundBy, IsLeast, KeptBy, OfferedTo, shared_rows, words_of};
+    ghost use Rattle.choice.specs.Judged.{AllGenerated, AllLeast, AreLeaves, Beside, FoundBy, IsLeast, KeptBy, OfferedTo, shared_rows, words_of};
 
     // The best words of all.
     pub(crate) fn best(&self) -> Chosen
         requires { OnTrue self.now.alike (EqualAliases L.model (P.good self.now.preference.now)) }
         ensures { FoundBy L.model P.good self.now (chosen_words result) }
     {
-        let mut progress = self.sample();
+        let mut progress = Progress {
+            best: self.nothing(),
+            candidates: Bounded::new(Candidate::new(0)),
+        };
+        self.sample(&mut progress);
         let rows = self.whole.rows();
         let from = self.shared();
         for i in self.known.len()..rows.len() {
@@ -31,27 +36,28 @@ impl<'a, L: Levels, P: Preference<L>> Judge<'a, L, P> {
         progress.best.words
     }
 
-    // The best of some words that lie far apart, so that most words of the walk stand behind them at once: the added rows, and
-    // sums of the first of them with all sums of the last ones. Of large alias sets there are few.
-    fn sample(&self) -> Progress
-        requires { OnTrue self.now.alike (EqualAliases L.model (P.good self.now.preference.now)) }
-        ensures kept { KeptBy L.model P.good self.now result }
-        ensures generated { AllGenerated L.model self.now (words_of result) }
+    // At first, some words that lie far apart, so that most words of the walk stand behind them at once: the added rows, and
+    // sums of the first of them with all sums of the last ones. Of large alias sets there are few, and of few rows.
+    fn sample(&self, progress: &mut Progress)
+        requires law { OnTrue self.now.alike (EqualAliases L.model (P.good self.now.preference.now)) }
+        requires none { words_of progress.old ≡ [] }
+        requires beside { Beside L.model self.now progress.old }
+        ensures kept { KeptBy L.model P.good self.now progress.new }
+        ensures generated { AllGenerated L.model self.now (words_of progress.new) }
     {
-        let mut progress = self.start();
         let from = self.shared();
         let rows = &self.whole.rows()[self.known.len()..];
-        self.offer_all(&mut progress, rows);
-        if self.room > 0 && from <= SMALL {
-            let (before, sums) = list_sums::<L>(self.factors, &self.whole.rows()[from..]);
+        self.offer_all(progress, rows);
+        let walked = &self.whole.rows()[from..];
+        if self.room > 0 && from <= SMALL && walked.len() > SMALL {
+            let (before, sums) = list_sums::<L>(self.factors, walked);
             let leaves = Leaves::new::<L>(self.factors, sums);
             let mut start = 0;
             for row in before {
                 start = L::add(start, *row);
-                self.offer_leaves(&mut progress, &leaves, start);
+                self.offer_leaves(progress, &leaves, start);
             }
         }
-        progress
     }
 
     // Each word of a list is offered.

@@ -1,12 +1,11 @@
-use Rattle.std.proofs.Common.{◌≡◌, take}
-use Rattle.levels.specs.Rows.{basis_rows}
+use Rattle.std.proofs.Common.{◌≡◌, take, rules}
 use Rattle.choice.specs.Choice.{generators}
 use Rattle.choice.specs.Chosen.{chosen_words}
-use Rattle.choice.proofs.Offers.{generators_found, promised, by_words}
+use Rattle.choice.proofs.Offers.{promised, by_words}
 use Rattle.choice.proofs.choose.Goals as goal
 
-pub returns : goal.returns
-returns g c =
+pub returns-then-is_empty : goal.returns-then-is_empty
+returns-then-is_empty g c =
     let A = g.L.Levels.model in
     let L = g.met.L.Levels.lawful in
     let good = g.P.Preference.good c.args.preference.now in
@@ -14,14 +13,19 @@ returns g c =
     let n = c.args.n in
     let base = c.args.base.now in
     let further = c.args.further.now in
-    let j = c.new.result in
-    let e = c.new.ensures in
-    let ours = chosen_words c.best.result in
-    let found = generators_found A L (g.P.Preference.good j.preference.now) (g.met.P.Preference.lawful j.preference.now) j.factors j.room j.base.words.now further (basis_rows j.known) (basis_rows j.whole)
-    j.spans j.all j.front j.longer (rw (e.factors, e.base) e.whole) j.alike j.space c.best.ensures.0 ours c.best.ensures.1 c.best.ensures.2 in
-    let exact : ours ≡ take 16 (generators A good n base further) = rw (e.preference, e.factors, e.base) at found in
+    let ours = chosen_words c.new.result in
+    let exact : ours ≡ take 16 (generators A good n base further) = search rules in
     record { exact = exact; promise = promised A L good n base further laws ours exact; same = by_words A L good n base further laws }
 
--- the law of the judge is the preference's
-pub best-requires : goal.best-requires
-best-requires g c = rw c.new.ensures.preference c.new.ensures.alike
+pub returns-else-is_empty : goal.returns-else-is_empty
+returns-else-is_empty g c =
+    let A = g.L.Levels.model in
+    let L = g.met.L.Levels.lawful in
+    let good = g.P.Preference.good c.args.preference.now in
+    let laws = g.met.P.Preference.lawful c.args.preference.now in
+    let n = c.args.n in
+    let base = c.args.base.now in
+    let further = c.args.further.now in
+    let ours = chosen_words c.chosen_of.result in
+    let exact = c.chosen_of.ensures in
+    record { exact = exact; promise = promised A L good n base further laws ours exact; same = by_words A L good n base further laws }

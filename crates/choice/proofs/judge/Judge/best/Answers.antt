@@ -12,9 +12,9 @@ pub loop-i-init : goal.loop-i-init
 loop-i-init g c =
     let s = c.args.self.now in
     let k = length (basis_rows s.known) in
-    let sampled = c.sample-progress.result in
+    let sampled = c.sample.new.progress in
     subst (λ (i : ℕ). OfferedTo g.L.Levels.model g.P.Preference.good s (Below i (LedAt g.L.Levels.model s.factors (basis_rows s.whole) k)) (words_of sampled) sampled) (sym c.len-i.ensures.count)
-    (led_rows_none g.L.Levels.model g.met.L.Levels.lawful (g.P.Preference.good s.preference.now) (g.met.P.Preference.lawful s.preference.now) s.factors s.room s.base.words.now (basis_rows s.whole) k (words_of sampled) c.sample-progress.ensures.kept.0, c.sample-progress.ensures.kept.1)
+    (led_rows_none g.L.Levels.model g.met.L.Levels.lawful (g.P.Preference.good s.preference.now) (g.met.P.Preference.lawful s.preference.now) s.factors s.room s.base.words.now (basis_rows s.whole) k (words_of sampled) c.sample.ensures.kept.0, c.sample.ensures.kept.1)
 
 -- each added row is the smallest code of those that are alike
 pub offer_led-requires-clause-lead : goal.offer_led-requires-clause-lead
@@ -57,7 +57,7 @@ loop-i-preserved g c =
     let led = subst (λ (us : List ℕ). OfferedTo A g.P.Preference.good s (Led A s.factors (take (i - from) (drop from us) ++ shared) (get_or us i 0)) (words_of c.loop-i.progress) c.offer_led.new.progress) c.rows-rows.ensures c.offer_led.ensures in
     let o = led_same A L good laws s.factors s.room s.base.words.now (take (i - from) (drop from whole) ++ shared) (take i whole) (λ x. (same x).0) (λ x. (same x).1) (get_or whole i 0) word (words_of c.loop-i.progress) (words_of c.offer_led.new.progress) led.0 in (
       led_row A L good laws s.factors s.room s.base.words.now whole (length known) i (omega (arith, c.loop-i.auto.i, c.len-i.ensures.count)) word
-          (words_of c.sample-progress.result) (words_of c.loop-i.progress) (words_of c.offer_led.new.progress) c.loop-i.invariant.0 o,
+          (words_of c.sample.new.progress) (words_of c.loop-i.progress) (words_of c.offer_led.new.progress) c.loop-i.invariant.0 o,
       led.1,
     )
 
@@ -68,10 +68,10 @@ returns g c =
     let s = c.args.self.now in
     let whole = basis_rows s.whole in
     let known = basis_rows s.known in
-    let sampled = words_of c.sample-progress.result in
+    let sampled = words_of c.sample.new.progress in
     let inside : length c.rows-rows.result.now ≡ length whole = ap length c.rows-rows.ensures in
     let all : c.loop-i.i ≡ length whole = omega (arith, c.loop-i.auto.i, c.loop-i.auto.i-end, c.loop-i-test.false, c.len-i.ensures.count, inside, s.longer) in (
       sampled,
-      c.sample-progress.ensures.generated,
+      c.sample.ensures.generated,
       subst (λ (i : ℕ). Offered A s.factors (order_of A g.P.Preference.good s) s.room s.base.words.now (Below i (LedAt A s.factors whole (length known))) sampled (words_of c.loop-i.progress)) all c.loop-i.invariant.0,
     )

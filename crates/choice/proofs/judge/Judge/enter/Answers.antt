@@ -1,7 +1,7 @@
-use Rattle.std.proofs.Common.{◌≡◌, ℕ, ◌∷◌, [], ◌++◌, ◌⊎◌, ◌≤◌, List, take, drop, sym, ap, ◌∙◌, subst, inl, inr, arith}
+use Rattle.std.proofs.Common.{◌≡◌, ℕ, ◌++◌, ◌⊎◌, ◌≤◌, take, sym, ◌∙◌, subst, inl, inr, arith}
 use Rattle.std.proofs.lemmas.Bool.{OnTrue_at}
 use Rattle.levels.specs.Generated.{Generates}
-use Rattle.choice.specs.Search.{Offered, sieve}
+use Rattle.choice.specs.Search.{Offered}
 use Rattle.choice.specs.Judged.{words_of, order_of}
 use Rattle.choice.proofs.Greedy.{judged_order}
 use Rattle.choice.proofs.Sieve.{offered_at, offered_stays}
@@ -19,7 +19,7 @@ returns-then-not-generated g c =
     let order = judged_order A good (g.met.P.Preference.lawful s.preference.now) s.factors base in
     let ours = words_of c.args.progress.now in
     let p = c.place-place.ensures in
-    let made = c.remember.ensures.words ∙ c.put-more.ensures.words ∙ ap (λ (us : List ℕ). sieve A s.factors s.room base [] (take c.place-place.result us ++ c.args.candidate.now.word ∷ drop c.place-place.result us)) c.words.ensures in (
+    let made = c.remember.ensures.words ∙ c.put.ensures.words in (
       subst (Offered A s.factors at_least s.room base (λ (y : ℕ). y ≡ c.args.candidate.now.word) ours) (sym made)
           (offered_at A g.met.L.Levels.lawful s.factors at_least order s.room base ours c.place-place.result c.args.candidate.now.word p.within c.requires.kept.0 c.requires.candidate.0
           p.before p.behind),

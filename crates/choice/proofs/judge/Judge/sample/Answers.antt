@@ -35,9 +35,9 @@ loop-row-init g c =
     record {
       smallest = λ i l c lc. omega arith;
       start = any_zero A L n (vector_space A L n) whole;
-      kept = (c.offer_all.ensures.0.kept, c.offer_all.ensures.1, c.requires);
+      kept = (c.offer_all.ensures.0.kept, c.offer_all.ensures.1, c.requires.law);
       generated = all_generated A L n whole (OneOf A n (shared_rows s) added) (one_generated A L n whole (shared_rows s) inside added words made)
-          (words_of c.start-progress.result) (words_of c.offer_all.new.progress) (λ i l. absurd (omega (arith, ap length c.start-progress.ensures.words))) c.offer_all.ensures.0.from;
+          (words_of c.args.progress.now) (words_of c.offer_all.new.progress) (λ i l. absurd (omega (arith, ap length c.requires.none))) c.offer_all.ensures.0.from;
     }
 
 -- they alone, where alias sets are judged
@@ -58,7 +58,7 @@ returns-else-self-gt0-clause-generated g c =
     let made : (i : ℕ) → i < length added → Generates A n whole (get_or added i 0) =
     subst (λ (us : List ℕ). (i : ℕ) → i < length us → Generates A n whole (get_or us i 0)) (sym is) (drop_generated A L n whole s.all.words (length known)) in
     all_generated A L n whole (OneOf A n (shared_rows s) added) (one_generated A L n whole (shared_rows s) inside added words made)
-    (words_of c.start-progress.result) (words_of c.offer_all.new.progress) (λ i l. absurd (omega (arith, ap length c.start-progress.ensures.words))) c.offer_all.ensures.0.from
+    (words_of c.args.progress.now) (words_of c.offer_all.new.progress) (λ i l. absurd (omega (arith, ap length c.requires.none))) c.offer_all.ensures.0.from
 
 -- the added rows are the smallest codes of those that are alike
 pub offer_all-requires-clause-words : goal.offer_all-requires-clause-words
@@ -78,13 +78,13 @@ offer_leaves-requires-clause-start g c =
     let n = s.factors in
     let shared = shared_rows s in
     let echelon = shared_echelon A n (basis_rows s.known) s.alike s.echelon in
-    let rows = c.rows-then-from-le-SMALL.result.now in
+    let rows = c.rows-2.result.now in
     let k = c.shared-from.result in
     let count = length rows - k in
     let part = take count (drop k rows) in
     let before = c.list_sums.result.0.now in
     let least : (i : ℕ) → i < length part → Least A n shared (get_or part i 0) =
-    part_least A L n (basis_rows s.whole) shared k k s.all c.shared-from.ensures.front (omega arith) part count (ap (λ (us : List ℕ). take count (drop k us)) c.rows-then-from-le-SMALL.ensures) in
+    part_least A L n (basis_rows s.whole) shared k k s.all c.shared-from.ensures.front (omega arith) part count (ap (λ (us : List ℕ). take count (drop k us)) c.rows-2.ensures) in
     let front = front_least A L n shared echelon part before c.list_sums.ensures.words least in
     let i = c.loop-row.row-index in
     let start : Least A n shared c.loop-row.start = record {
@@ -102,13 +102,13 @@ offer_leaves-requires-clause-leaves g c =
     let n = s.factors in
     let shared = shared_rows s in
     let echelon = shared_echelon A n (basis_rows s.known) s.alike s.echelon in
-    let rows = c.rows-then-from-le-SMALL.result.now in
+    let rows = c.rows-2.result.now in
     let k = c.shared-from.result in
     let count = length rows - k in
     let part = take count (drop k rows) in
     let before = c.list_sums.result.0.now in
     let least : (i : ℕ) → i < length part → Least A n shared (get_or part i 0) =
-    part_least A L n (basis_rows s.whole) shared k k s.all c.shared-from.ensures.front (omega arith) part count (ap (λ (us : List ℕ). take count (drop k us)) c.rows-then-from-le-SMALL.ensures) in
+    part_least A L n (basis_rows s.whole) shared k k s.all c.shared-from.ensures.front (omega arith) part count (ap (λ (us : List ℕ). take count (drop k us)) c.rows-2.ensures) in
     let i = c.loop-row.row-index in
     let row = front_least A L n shared echelon part before c.list_sums.ensures.words least i c.loop-row-test.true in
     record {
@@ -126,10 +126,10 @@ loop-row-preserved g c =
     let n = s.factors in
     let known = basis_rows s.known in
     let whole = basis_rows s.whole in
-    let rows = c.rows-then-from-le-SMALL.result.now in
+    let rows = c.rows-2.result.now in
     let k = c.shared-from.result in
     let all_rows = take (length rows - k) (drop k rows) in
-    let is : all_rows ≡ drop k whole = take_rest rows k ∙ ap (drop k) c.rows-then-from-le-SMALL.ensures in
+    let is : all_rows ≡ drop k whole = take_rest rows k ∙ ap (drop k) c.rows-2.ensures in
     let before = c.list_sums.result.0.now in
     let split = c.list_sums.ensures.words in
     let i = c.loop-row.row-index in
@@ -141,7 +141,7 @@ loop-row-preserved g c =
     record {
       smallest = (offer_leaves-requires-clause-start g c.before).smallest;
       start = next.1;
-      kept = (c.offer_leaves.ensures.0.kept, c.offer_leaves.ensures.1, c.requires);
+      kept = (c.offer_leaves.ensures.0.kept, c.offer_leaves.ensures.1, c.requires.law);
       generated = all_generated A L n whole (Spread A n (shared_rows s) [] (leaf_words c.new-leaves.result) c.add-start.result)
           (leaf_generated A L n whole (shared_rows s) inside (leaf_words c.new-leaves.result) c.add-start.result next.0 words next.1 (last_generated A L n whole s.all.words k all_rows before is split (leaf_words c.new-leaves.result) all))
           (words_of c.loop-row.progress) (words_of c.offer_leaves.new.progress) c.loop-row.invariant.generated c.offer_leaves.ensures.0.from;
