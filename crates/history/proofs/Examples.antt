@@ -45,7 +45,9 @@ reference_plans = record {
   two_runs_of_three = λ m. refl;
   known_words = refl;
   six_factors = refl;
+  six_factors_take_63 = refl;
   one_factor_of_three_levels = refl;
+  one_factor_takes_2 = refl;
   starts = refl;
   three_level_sum = refl;
 }

@@ -14,7 +14,7 @@ use Rattle.history.specs.declared.question.Reply.{Reply}
 use Rattle.history.specs.declared.question.Reply.TheVariants.{Changed, Factors, Counts, Code, Written, Resolution, Block as BlockNumber}
 use Rattle.history.specs.Lent.{Lent}
 use Rattle.history.specs.Questions.{Scoring, answer, in_bytes, in_counts, in_words, in_words_and_counts}
-use Rattle.history.specs.States.{settled_state}
+use Rattle.history.specs.States.{open_state, settled_state}
 use Rattle.history.specs.Calls.{StatedCall, answers, new, plan_after}
 
 -- a content of n factors
@@ -108,8 +108,12 @@ pub record ReferencePlans : Type 0 where
       ≡ Ok 0 ∷ Err 3 ∷ Ok 0 ∷ Err 3 ∷ Err 5 ∷ []
   pub six_factors :
       numbers two (Start 6 ∷ Admit Defining 63 ∷ Admit Defining 64 ∷ []) ≡ Ok 0 ∷ Ok 0 ∷ Err 2 ∷ []
+  pub six_factors_take_63 :
+      plan_after two (Start 6 ∷ Admit Defining 63 ∷ []) new ≡ Some (open_state (of_factors 6 (63 ∷ []) []))
   pub one_factor_of_three_levels :
       numbers three (Start 1 ∷ Admit Defining 3 ∷ Admit Defining 4 ∷ Admit Defining 2 ∷ [])
       ≡ Ok 0 ∷ Err 2 ∷ Err 2 ∷ Ok 0 ∷ []
+  pub one_factor_takes_2 :
+      plan_after three (Start 1 ∷ Admit Defining 2 ∷ []) new ≡ Some (open_state (of_factors 1 (2 ∷ []) []))
   pub starts : numbers two (Start 0 ∷ Start 33 ∷ Start 32 ∷ []) ≡ Err 1 ∷ Err 1 ∷ Ok 0 ∷ []
   pub three_level_sum : word_sum three 4 21 73 ≡ 82

@@ -4,7 +4,7 @@ use contents::Side;
 /// A call, with what it is handed: the bytes of a file `F`, a question `Q`.
 ///
 /// An open plan takes the calls from `Start` to `Settle`, a settled one the other two.
-#[derive(Drop)]
+#[derive(Clone, Copy, Drop)]
 pub enum Call<F, Q> {
     /// So many factors, and no words.
     Start(u8),

@@ -14,7 +14,7 @@ use preferences::{Preference, Scored};
 ///
 /// An answer of many numbers goes to the start of the memory that is lent: files, pages and clear pairs to its bytes,
 /// patterns and scores to its counts, words and runs to its words.
-#[derive(Drop)]
+#[derive(Clone, Copy, Drop)]
 pub enum Question<P, S, W> {
     /// The number of factors.
     Factors,
