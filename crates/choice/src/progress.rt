@@ -17,7 +17,7 @@ use levels::Levels;
 use levels::opposites::Leaves;
 use preferences::{Candidate, Preference, Sum};
 
-// The alias sets of so few rows are small.
+// So few rows make few sums.
 pub(crate) const SMALL: usize = 4;
 
 // The best words so far, and the candidates of those that entered last.

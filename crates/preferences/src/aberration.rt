@@ -9,7 +9,7 @@ ghost use Rattle.preferences.specs.Verdicts.{verdict_of};
 ghost use Rattle.preferences.specs.Counts.{least_aberration_laws};
 
 use crate::candidate::Candidate;
-use crate::preference::{Preference, Verdict, smaller};
+use crate::preference::{Preference, Verdict, judged, smaller};
 use crate::sum::Sum;
 use levels::span::Tally;
 use levels::{Levels, Span};
@@ -25,6 +25,17 @@ impl<L: Levels> Preference<L> for LeastAberration {
 
     fn equates_aliases(&self) -> bool {
         true
+    }
+
+    // Without base words no sums are needed.
+    fn compare(&self, n: u8, base: &[u64], a: u64, b: u64) -> Verdict {
+        if !judged::<L>(n, base, a, b) {
+            Verdict::Equal
+        } else if base.is_empty() {
+            longer::<L>(a, b)
+        } else {
+            fewer_of_words(&Span::<L>::new(n, base), a, b)
+        }
     }
 
     #[inline(always)]
